@@ -290,3 +290,29 @@ wrap-flip k a h = by_bool k
         let l = residue_left bits a in
         let below = residue_below bits a in
         residue_same bits (pos (2 ^ bits - 1 - residue bits a)) (neg_ℤ a -ℤ pos 1) l.1 (suc l.0) (omega (arith, ints, l.2))
+
+residue_again : (bits : ℕ) (z : ℤ) → residue bits (pos (residue bits z)) ≡ residue bits z
+residue_again bits z = residue_small bits (residue bits z) (residue_below bits z)
+
+-- the signed number has the same residue
+pub residue-signed_residue : (bits : ℕ) (z : ℤ) → residue bits (signed_residue bits z) ≡ residue bits z
+unfolding signed_residue
+residue-signed_residue bits z = by (nat_lt (residue bits z) (2 ^ (bits - 1)))
+  where
+    by : (t : Bool) → residue bits (cond t (pos (residue bits z)) (pos (residue bits z) -ℤ pos (2 ^ bits))) ≡ residue bits z
+    by true = residue_again bits z
+    by false = residue_same bits (pos (residue bits z) -ℤ pos (2 ^ bits)) (pos (residue bits z)) 1 0 (omega (arith, ints)) ∙ residue_again bits z
+
+-- Reduced to a kind other than `bool`, a number differs from what it was by a multiple of 2 ^ bits.
+pub residue-wrap : (k : Kind) → (k ≡ kind.Bool → ⊥) → (z : ℤ) → residue (bits_of k) (wrap k z) ≡ residue (bits_of k) z
+unfolding wrap bits_of
+residue-wrap kind.Bool ne z = absurd (ne refl)
+residue-wrap kind.I8 ne z = residue-signed_residue 8 z
+residue-wrap kind.I16 ne z = residue-signed_residue 16 z
+residue-wrap kind.I32 ne z = residue-signed_residue 32 z
+residue-wrap kind.I64 ne z = residue-signed_residue 64 z
+residue-wrap kind.U8 ne z = residue_again 8 z
+residue-wrap kind.U16 ne z = residue_again 16 z
+residue-wrap kind.U32 ne z = residue_again 32 z
+residue-wrap kind.U64 ne z = residue_again 64 z
+residue-wrap kind.Char ne z = residue_again 8 z

@@ -15,7 +15,7 @@ use Rattle.dc_types.specs.declared.kind.UnOp.{UnOp}
 use Rattle.dc_types.specs.declared.kind.UnOp.TheVariants as unop
 use Rattle.dc_types.specs.declared.event.TrapKind.{TrapKind}
 use Rattle.dc_types.specs.declared.event.TrapKind.TheVariants as trap
-use Rattle.dc_types.specs.Integers.{least, greatest, InKind, wrap, can_divide, can_shift, binary, unary}
+use Rattle.dc_types.specs.Integers.{FitsRight, least, greatest, InKind, wrap, can_divide, can_shift, binary, unary}
 use Rattle.dc_types.proofs.Integers.{InKind-wrap, wrap_in_kind}
 
 -- 0 is a number of each kind, and so is 1
@@ -172,3 +172,17 @@ binary-Rem k a b h t = ap (λ t. cond t (Ok (wrap k (int_rem a b))) (Err trap.Di
 pub binary-Shr : (k : Kind) (a b : ℤ) → InKind k a → can_shift k b ≡ true → binary binop.Shr k a b ≡ Ok (int_div_euclid a (pos (2 ^ unsigned_abs b)))
 unfolding binary
 binary-Shr k a b h t = ap (λ t. cond t (Ok (wrap k (int_div_euclid a (pos (2 ^ unsigned_abs b))))) (Err trap.Shift)) t ∙ ap Ok (wrap_in_kind k _ (shifted_in_kind k a (2 ^ unsigned_abs b) h))
+
+-- A number of the kind may stand to the right of each operator.
+pub fits_right : (op : BinOp) (k : Kind) (b : ℤ) → InKind k b → FitsRight op k b
+fits_right binop.Add k b h = h
+fits_right binop.Sub k b h = h
+fits_right binop.Mul k b h = h
+fits_right binop.Div k b h = h
+fits_right binop.Rem k b h = h
+fits_right binop.BitAnd k b h = h
+fits_right binop.BitOr k b h = h
+fits_right binop.BitXor k b h = h
+fits_right binop.Shl k b h = tt
+fits_right binop.Shr k b h = tt
+fits_right binop.Ushr k b h = tt
