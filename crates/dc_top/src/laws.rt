@@ -3,7 +3,6 @@ ghost use Rattle.dc_top.specs.Laws.{HasOneProgram};
 
 /// A text has at most one program: no two bodies have their tokens in common. So what a file means is settled by its
 /// text alone.
-#[tactic(auto, using(crate::proofs::Programs::one_program))]
 pub fn texts_have_one_program()
     ensures { HasOneProgram }
 {}
