@@ -1,8 +1,7 @@
 -- What the answer of a call says of its job.
-use Rattle.std.proofs.Common.{◌≡◌, ℕ, Bool, true, false, List, Option, Some, None, ◌⊎◌, inl, inr, refl, ap, sym, ◌∙◌, subst}
+use Rattle.std.proofs.Common.{◌≡◌, ℕ, true, false, List, Option, Some, None, ◌⊎◌, inl, inr, refl, sym, ◌∙◌, subst}
 use Rattle.std.specs.Prelude.{IsSome}
-use Rattle.std.specs.Io.KnownBytes.{Appends, Keeps}
-use Rattle.std.specs.FinMap.{get}
+use Rattle.std.specs.Io.KnownBytes.{Appends}
 use Rattle.dc_types.specs.declared.status.Status.{Status}
 use Rattle.dc_types.specs.declared.status.Status.TheVariants as status
 use Rattle.dc_edge.specs.Causes.{Rose}
@@ -11,7 +10,7 @@ use Rattle.dc_edge.specs.Sink.{AppendsFront}
 use Rattle.dc_edge.proofs.Puts.{kept_front}
 use Rattle.dc_tree.specs.declared.tree.Stmt.{Stmt}
 use Rattle.dc_top.specs.Grammar.{IsProgramOf}
-use Rattle.dc_top.specs.Answers.{output_of, IsRun, IsRefused, IsReadFault, IsUsage, LacksFile, Prints, PrintsFront, Reports, ReportsFront, Answers, IsOrFails, Follows}
+use Rattle.dc_top.specs.Answers.{output_of, IsRun, IsRefused, LacksFile, ReportsFront, Answers, IsOrFails, Follows}
 use Rattle.dc_top.proofs.Options.{some_same, none_some}
 use Rattle.dc_top.proofs.Programs.{one_program}
 

@@ -1,5 +1,5 @@
 -- The scan for the last byte of a value.
-use Rattle.std.proofs.Common.{◌≡◌, ℕ, ◌+◌, ◌≤◌, ◌<◌, suc, Bool, true, false, cond, ◌||◌, ◌==◌, List, [], ◌∷◌, length, drop, slice_index_or, ◌≢◌, refl, ap, sym, ◌∙◌, arith}
+use Rattle.std.proofs.Common.{◌≡◌, ℕ, ◌+◌, ◌<◌, suc, Bool, true, false, cond, ◌||◌, ◌==◌, List, [], ◌∷◌, length, drop, slice_index_or, ◌≢◌, refl, ap, ◌∙◌, arith}
 use Rattle.std.proofs.lemmas.Bool.Decides.{nat_tests}
 use Rattle.std.proofs.lemmas.Grind.{common_steps}
 use Rattle.dc_top.specs.Names.{has, behind_last}

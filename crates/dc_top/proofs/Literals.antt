@@ -1,5 +1,5 @@
 -- Literals are read as they are spelled.
-use Rattle.std.proofs.Common.{◌≡◌, ℕ, zero, suc, ◌+◌, ◌-◌, ◌*◌, ◌^◌, ◌≤◌, ◌<◌, Bool, true, false, ◌&&◌, ◌==◌, cond, nat_le, List, [], ◌∷◌, length, get_or, Option, Some, None, ℤ, pos, negsuc, refl, ap, sym, ◌∙◌, subst, arith}
+use Rattle.std.proofs.Common.{◌≡◌, ℕ, zero, suc, ◌+◌, ◌-◌, ◌*◌, ◌^◌, ◌≤◌, ◌<◌, Bool, true, false, ◌&&◌, ◌==◌, cond, nat_le, List, [], ◌∷◌, length, get_or, Some, None, ℤ, pos, negsuc, refl, ap, sym, ◌∙◌, subst, arith}
 use Rattle.std.proofs.lemmas.Bool.Decides.{nat_tests}
 use Rattle.std.specs.Prelude.{option_map, unsigned_abs, nat_eq}
 use Rattle.std.specs.Char.{is_ascii_digit}
@@ -11,7 +11,7 @@ use Rattle.dc_tree.specs.declared.tree.Literal.{Literal}
 use Rattle.dc_top.specs.Tokens.{Token}
 use Rattle.dc_top.specs.Grammar.{literal_token, is_int, is_int_literal}
 use Rattle.dc_top.specs.Reading.{digits_from, number_of, literal_at}
-use Rattle.dc_top.proofs.Options.{none_some, some_same, pair, pair_same, guard_ok, unless_ok, and_ok, both_true, map_ok}
+use Rattle.dc_top.proofs.Options.{none_some, some_same, pair, guard_ok, unless_ok, and_ok, both_true, map_ok}
 
 -- the number that digits write behind a number
 abbrev value_from : ℕ → List ℕ → ℕ

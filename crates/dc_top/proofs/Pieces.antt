@@ -1,5 +1,5 @@
 -- Laws of what is read piece by piece.
-use Rattle.std.proofs.Common.{◌≡◌, ℕ, ◌+◌, suc, List, [], ◌∷◌, ◌++◌, append-nil, Option, Some, None, append_assoc, refl, ap, sym, ◌∙◌, add-one, arith}
+use Rattle.std.proofs.Common.{◌≡◌, ℕ, ◌+◌, List, [], ◌∷◌, ◌++◌, append-nil, Option, Some, None, append_assoc, refl, ap, sym, ◌∙◌, add-one}
 use Rattle.dc_top.specs.Tokens.{Token}
 use Rattle.dc_top.specs.Reading.{PieceReader, ahead, all_ahead, pieces_step, pieces_from}
 

@@ -1,5 +1,5 @@
 -- The program of a file is the one that its text spells, and there is at most one.
-use Rattle.std.proofs.Common.{◌≡◌, ℕ, Bool, true, false, cond, List, Option, Some, None, refl, ap, sym, ◌∙◌}
+use Rattle.std.proofs.Common.{◌≡◌, ℕ, cond, List, Some, None, ap, sym, ◌∙◌}
 use Rattle.dc_tree.specs.declared.tree.Stmt.{Stmt}
 use Rattle.dc_top.specs.Names.{default_name, is_identifier}
 use Rattle.dc_top.specs.Lexing.{tokens_of}

@@ -1,5 +1,5 @@
 -- What a call of the compiler answers, and what its sinks take.
-use Rattle.std.specs.Prelude.{◌≡◌, ℕ, List, [], ◌∷◌, Option, Some, None, Result, Ok, Err, ◌⊎◌, IsSome}
+use Rattle.std.specs.Prelude.{◌≡◌, ℕ, List, [], ◌∷◌, Option, Some, None, Result, Ok, Err, ◌⊎◌}
 use Rattle.std.specs.Io.KnownBytes.{Appends, Keeps}
 use Rattle.dc_types.specs.declared.place.Step.TheVariants.{At}
 use Rattle.dc_types.specs.declared.refusal.Refusal.{Refusal}

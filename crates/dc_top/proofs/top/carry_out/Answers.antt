@@ -1,5 +1,4 @@
 use Rattle.std.proofs.Common.{inr, refl}
-use Rattle.dc_edge.specs.Sink.{AppendsFront}
 use Rattle.dc_edge.proofs.Puts.{same_keeps}
 use Rattle.dc_top.proofs.Endings.{refused_front}
 use Rattle.dc_top.proofs.top.carry_out.Goals as goal

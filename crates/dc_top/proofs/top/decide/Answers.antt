@@ -1,6 +1,5 @@
 use Rattle.std.proofs.Common.{◌≡◌, ◌∙◌, ◌∷◌, [], None, ap, sym}
 use Rattle.dc_top.specs.Reading.{program_of}
-use Rattle.dc_top.specs.Answers.{refusal_of}
 use Rattle.dc_top.specs.Reports.{refused_line}
 use Rattle.dc_top.proofs.Programs.{no_program, program_spelled}
 use Rattle.dc_top.proofs.top.decide.Goals as goal
