@@ -1,5 +1,5 @@
 // Files and sinks in memory, for tests and for programs that are made in memory.
-ghost use Rattle.std.specs.Prelude.{◌≡◌, ◌≤◌, ◌<◌, ◌^◌, ◌↔◌, IsTrue, Some};
+ghost use Rattle.std.specs.Prelude.{◌≡◌, ◌≤◌, ◌+◌, ◌-◌, ◌^◌, ◌↔◌, min, IsTrue, Some};
 ghost use Rattle.std.specs.Result.{IsErrOf};
 ghost use Rattle.std.specs.Option.{option_copied};
 ghost use Rattle.dc_edge.specs.Causes.{CountsFaults};
@@ -76,6 +76,7 @@ fn read_from(alloc: Global, files: &Files, path: &[u8]) -> Result<Text, LibFault
 fn fails_next(fails: &Vec<u64>, calls: &mut u64, faults: &mut u64) -> bool
     requires { faults.old ≤ calls.old }
     ensures listed { IsTrue result ↔ FailsNext fails.now.items calls.old }
+    ensures counted { calls.new ≡ min (calls.old + 1) (2 ^ 64 - 1) }
     ensures within { faults.new ≤ calls.new }
     ensures cause { CountsFaults faults.old faults.new (IsTrue result) }
 {
@@ -100,6 +101,8 @@ impl Library for MemLibrary {
         ensures content { Reads (Some (file_map self.old.files)) path.now result }
         ensures cause { CountsFaults self.old.faults self.new.faults (IsErrOf result LibFault.Failed) }
         ensures listed { IsErrOf result LibFault.Failed ↔ FailsNext self.old.fails.items self.old.calls }
+        ensures counted { self.new.calls ≡ min (self.old.calls + 1) (2 ^ 64 - 1) }
+        ensures list { self.new.fails ≡ self.old.fails }
     {
         if fails_next(&self.fails, &mut self.calls, &mut self.faults) {
             return Err(LibFault::Failed);
@@ -137,6 +140,9 @@ impl Sink for MemSink {
         ensures content { Takes (Some self.old.bytes) (Some self.new.bytes) piece.now result }
         ensures cause { CountsFaults self.old.faults self.new.faults (IsErrOf result SinkFault.Failed) }
         ensures listed { IsErrOf result SinkFault.Failed ↔ FailsNext self.old.fails.items self.old.calls }
+        ensures nothing { IsErrOf result SinkFault.Failed → self.new.bytes ≡ self.old.bytes }
+        ensures counted { self.new.calls ≡ min (self.old.calls + 1) (2 ^ 64 - 1) }
+        ensures list { self.new.fails ≡ self.old.fails }
     {
         if fails_next(&self.fails, &mut self.calls, &mut self.faults) {
             return Err(SinkFault::Failed);

@@ -14,8 +14,8 @@ use Rattle.dc_top.specs.Answers.{output_of, IsRun, IsRefused, LacksFile, Reports
 use Rattle.dc_top.proofs.Options.{some_same, none_some}
 use Rattle.dc_top.proofs.Programs.{one_program}
 
-pub refused_front : (job : Option (List ℕ)) (told : Option FileMap) (old new : Option (List ℕ)) (line : List ℕ) → IsRefused job told line → AppendsFront old new line → ReportsFront job told old new
-refused_front job told old new line is took = record { line = line; due = inr (inr is); took = took }
+pub refused_front : (job : Option (List ℕ)) (told : Option FileMap) (before now : ℕ) (old new : Option (List ℕ)) (line : List ℕ) → IsRefused job told line → AppendsFront old new line → ReportsFront job told before now old new
+refused_front job told before now old new line is took = record { line = line; due = inr (inr is); took = took }
 
 -- ---- two things said of one job
 
@@ -58,9 +58,9 @@ lacks_or_held job told file text p q holds =
 
 -- ---- by the status
 
-module _ (job : Option (List ℕ)) (told : Option FileMap) (out out' report report' : Option (List ℕ)) where
+module _ (job : Option (List ℕ)) (told : Option FileMap) (before now : ℕ) (out out' report report' : Option (List ℕ)) where
   abbrev Is : Status → Type 0
-  Is result = Answers job told result out out' report report'
+  Is result = Answers job told before now result out out' report report'
 
   module _ (some : IsSome told) where
     pub run_says : (result : Status) → Is result → (body : List Stmt) → IsRun job told body → (result ≡ status.ReadFault → ⊥) → Follows body result out out'

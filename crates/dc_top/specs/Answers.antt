@@ -24,7 +24,7 @@ use Rattle.dc_top.specs.declared.top.Plan.TheVariants as plan
 abbrev pub output_of : List Stmt → List ℕ
 output_of body = printed (meaning body)
 
--- The job's file has a program with this body: so it stands in the text that was read, which is the file's where files are told.
+-- The job's file has a program with this body: some text has it, and where files are told that is the file's.
 pub record IsRun (job : Option (List ℕ)) (told : Option FileMap) (body : List Stmt) : Type 0 where
   pub file : List ℕ
   pub text : List ℕ
@@ -36,7 +36,8 @@ pub record IsRun (job : Option (List ℕ)) (told : Option FileMap) (body : List 
 abbrev pub refusal_of : List ℕ → Refusal
 refusal_of file = record { rule = 2; place = record { «module» = default_name file; steps = At 0 ∷ [] }; detail = [] }
 
--- The job's file has no program, and this is the line that says so.
+-- The job's file has no program: some text has none, and where files are told that is the file's. This is the line that
+-- says so.
 pub record IsRefused (job : Option (List ℕ)) (told : Option FileMap) (line : List ℕ) : Type 0 where
   pub file : List ℕ
   pub text : List ℕ
@@ -44,12 +45,6 @@ pub record IsRefused (job : Option (List ℕ)) (told : Option FileMap) (line : L
   pub read : MayHold told file text
   pub none : (body : List Stmt) → IsProgramOf file text body → ⊥
   pub line_is : line ≡ refused_line (text ∷ []) (refusal_of file)
-
--- The job's file could not be read, and this is the line that says so.
-pub record IsReadFault (job : Option (List ℕ)) (line : List ℕ) : Type 0 where
-  pub file : List ℕ
-  pub of_job : job ≡ Some file
-  pub line_is : line ≡ read_fault_line file
 
 -- the words are no job, and this is the line that says so
 pub record IsUsage (job : Option (List ℕ)) (line : List ℕ) : Type 0 where
@@ -61,6 +56,14 @@ pub record LacksFile (job : Option (List ℕ)) (told : Option FileMap) : Type 0 
   pub file : List ℕ
   pub of_job : job ≡ Some file
   pub lacks : Lacks told file
+
+-- The job's file could not be read: the count of faults rose, or the files are told and it isn't there. This is the line
+-- that says so.
+pub record IsReadFault (job : Option (List ℕ)) (told : Option FileMap) (before now : ℕ) (line : List ℕ) : Type 0 where
+  pub file : List ℕ
+  pub of_job : job ≡ Some file
+  pub cause : Rose before now ⊎ LacksFile job told
+  pub line_is : line ≡ read_fault_line file
 
 -- `out` takes the whole output of the job's program
 pub record Prints (job : Option (List ℕ)) (told : Option FileMap) (old new : Option (List ℕ)) : Type 0 where
@@ -81,25 +84,26 @@ pub record Reports (IsLine : List ℕ → Type 0) (old new : Option (List ℕ)) 
   pub took : Appends old new line
 
 -- `report` takes a front of the one line that is due
-pub record ReportsFront (job : Option (List ℕ)) (told : Option FileMap) (old new : Option (List ℕ)) : Type 0 where
+pub record ReportsFront (job : Option (List ℕ)) (told : Option FileMap) (before now : ℕ) (old new : Option (List ℕ)) : Type 0 where
   pub line : List ℕ
-  pub due : IsUsage job line ⊎ (IsReadFault job line ⊎ IsRefused job told line)
+  pub due : IsUsage job line ⊎ (IsReadFault job told before now line ⊎ IsRefused job told line)
   pub took : AppendsFront old new line
 
--- what stands of the job, of `out` and of `report` under each status
-abbrev pub Answers : Option (List ℕ) → Option FileMap → Status → Option (List ℕ) → Option (List ℕ) → Option (List ℕ) → Option (List ℕ) → Type 0
-Answers job told status.Done out out' report report' = Prints job told out out' × Keeps report report'
-Answers job told status.Usage out out' report report' = Keeps out out' × Reports (IsUsage job) report report'
-Answers job told status.Refused out out' report report' = Keeps out out' × Reports (IsRefused job told) report report'
-Answers job told status.ReadFault out out' report report' = Keeps out out' × Reports (IsReadFault job) report report'
-Answers job told status.WriteFault out out' report report' =
-    (PrintsFront job told out out' × Keeps report report') ⊎ (Keeps out out' × ReportsFront job told report report')
-Answers job told status.NoMemory out out' report report' = (PrintsFront job told out out' ⊎ Keeps out out') × Keeps report report'
+-- what stands of the job, of `out` and of `report` under each status, where the library's count of faults was `before` and
+-- is `now`
+abbrev pub Answers : Option (List ℕ) → Option FileMap → ℕ → ℕ → Status → Option (List ℕ) → Option (List ℕ) → Option (List ℕ) → Option (List ℕ) → Type 0
+Answers job told before now status.Done out out' report report' = Prints job told out out' × Keeps report report'
+Answers job told before now status.Usage out out' report report' = Keeps out out' × Reports (IsUsage job) report report'
+Answers job told before now status.Refused out out' report report' = Keeps out out' × Reports (IsRefused job told) report report'
+Answers job told before now status.ReadFault out out' report report' = Keeps out out' × Reports (IsReadFault job told before now) report report'
+Answers job told before now status.WriteFault out out' report report' =
+    (PrintsFront job told out out' × Keeps report report') ⊎ (Keeps out out' × ReportsFront job told before now report report')
+Answers job told before now status.NoMemory out out' report report' = (PrintsFront job told out out' ⊎ Keeps out out') × Keeps report report'
 
 -- what is decided before anything is written: the job, the files that are told, and the count of faults before and now
 abbrev pub Decides : Option (List ℕ) → Option FileMap → ℕ → ℕ → Result Plan NoMemory → Type 0
 Decides job told before now (Ok plan.Usage) = (job ≡ None) × (now ≡ before)
-Decides job told before now (Ok (plan.ReadFault line)) = IsReadFault job line × (Rose before now ⊎ (LacksFile job told × (now ≡ before)))
+Decides job told before now (Ok (plan.ReadFault line)) = IsReadFault job told before now line
 Decides job told before now (Ok (plan.Refused line)) = IsRefused job told line × (now ≡ before)
 Decides job told before now (Ok (plan.Run body)) = IsRun job told body × (now ≡ before)
 Decides job told before now (Err nothing) = Unit {0}

@@ -79,11 +79,12 @@ fn carry_out<L: Library, S: Sink, R: Sink>(
     out: &mut S,
     report: &mut R,
 ) -> Status
-    ensures answers { Answers (job_of (texts_of words.now.items)) (L.told lib.old) result (S.taken out.old) (S.taken out.new) (R.taken report.old) (R.taken report.new) }
+    ensures answers { Answers (job_of (texts_of words.now.items)) (L.told lib.old) (L.faults lib.old) (L.faults lib.new) result (S.taken out.old) (S.taken out.new) (R.taken report.old) (R.taken report.new) }
     ensures read_fault { result ≡ Status.ReadFault → Rose (L.faults lib.old) (L.faults lib.new) ⊎ LacksFile (job_of (texts_of words.now.items)) (L.told lib.old) }
     ensures lib_counted { (L.faults lib.new ≡ L.faults lib.old → ⊥) → IsOrFails Status.ReadFault result }
     ensures write_fault { result ≡ Status.WriteFault → Rose (S.faults out.old) (S.faults out.new) ⊎ Rose (R.faults report.old) (R.faults report.new) }
     ensures out_counted { (S.faults out.new ≡ S.faults out.old → ⊥) → result ≡ Status.WriteFault }
+    ensures out_first { (S.faults out.new ≡ S.faults out.old → ⊥) → Keeps (R.taken report.old) (R.taken report.new) }
     ensures report_counted { (R.faults report.new ≡ R.faults report.old → ⊥) → result ≡ Status.WriteFault }
     ensures told { L.told lib.new ≡ L.told lib.old }
 {
@@ -128,7 +129,7 @@ pub fn dpc<L: Library, S: Sink, R: Sink>(
 
     // What the status says of the job's text, and what each sink took: a program and its whole output, or the one line
     // of the report. After a failed put or want of memory it is a front.
-    ensures answers { Answers (job_of (texts_of words.now.items)) (L.told lib.old) result (S.taken out.old) (S.taken out.new) (R.taken report.old) (R.taken report.new) }
+    ensures answers { Answers (job_of (texts_of words.now.items)) (L.told lib.old) (L.faults lib.old) (L.faults lib.new) result (S.taken out.old) (S.taken out.new) (R.taken report.old) (R.taken report.new) }
 
     // Where the words are no job, and only there, the status is Usage.
     ensures usage { result ≡ Status.Usage → job_of (texts_of words.now.items) ≡ None }
@@ -139,9 +140,11 @@ pub fn dpc<L: Library, S: Sink, R: Sink>(
     ensures lib_counted { (L.faults lib.new ≡ L.faults lib.old → ⊥) → IsOrFails Status.ReadFault result }
     ensures file_lacks { LacksFile (job_of (texts_of words.now.items)) (L.told lib.old) → IsOrFails Status.ReadFault result }
 
-    // A write fault comes only where a put failed in this call, and there it comes.
+    // A write fault comes only where a put failed in this call, and there it comes. After a put to `out` that failed,
+    // `report` takes nothing.
     ensures write_fault { result ≡ Status.WriteFault → Rose (S.faults out.old) (S.faults out.new) ⊎ Rose (R.faults report.old) (R.faults report.new) }
     ensures out_counted { (S.faults out.new ≡ S.faults out.old → ⊥) → result ≡ Status.WriteFault }
+    ensures out_first { (S.faults out.new ≡ S.faults out.old → ⊥) → Keeps (R.taken report.old) (R.taken report.new) }
     ensures report_counted { (R.faults report.new ≡ R.faults report.old → ⊥) → result ≡ Status.WriteFault }
 
     // Where the files are told and no read failed: a file with a program is run, to its whole output unless a put failed

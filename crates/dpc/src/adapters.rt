@@ -1,5 +1,6 @@
 // The real outside: files, and writers such as standard output. They tell nothing of content.
-ghost use Rattle.std.specs.Prelude.{None};
+ghost use Rattle.std.specs.Prelude.{None, IfOk, OnOk};
+ghost use Rattle.std.specs.Io.KnownBytes.{Consumes, IsAtEnd};
 
 use dc_edge::{LibFault, Library, Sink, SinkFault};
 use dc_types::Text;
@@ -24,8 +25,12 @@ impl<R> FileLibrary<R> {
     }
 }
 
-/// Reads piece by piece, until a read gives nothing.
-fn read_all<F: Read>(alloc: Global, file: &mut F) -> Result<Text, LibFault> {
+/// Reads piece by piece, until a read gives nothing: all that is left.
+#[tactic(auto, using(crate::proofs::Pieces::reading))]
+fn read_all<F: Read>(alloc: Global, file: &mut F) -> Result<Text, LibFault>
+    ensures whole { IfOk result (λ text. Consumes (F.remaining file.old) (F.remaining file.new) text) }
+    ensures end { OnOk result (IsAtEnd (F.remaining file.new)) }
+{
     let mut text = Text::new(alloc);
     let mut piece = [0u8; 65536];
     for _ in 0..u64::MAX {

@@ -1,5 +1,5 @@
 // The top call over objects in memory, row by row.
-use dc_edge::{MemLibrary, MemSink, Probe, SoundLibrary, SoundSink};
+use dc_edge::{MemLibrary, MemSink, Probe, SoundLibrary};
 use dc_top::dpc;
 use dc_types::{File, Files, Items, Status, Text};
 use std::alloc::Global;
@@ -92,25 +92,38 @@ fn words_of(alloc: Global, words: &[&str]) -> Result<Vec<String>, Fail> {
     Ok(all)
 }
 
-fn sink(alloc: Global) -> SoundSink {
-    SoundSink {
+fn sink(alloc: Global, fails: Vec<u64>) -> MemSink {
+    MemSink {
         bytes: Text::new(alloc),
+        fails,
+        calls: 0,
+        faults: 0,
     }
 }
 
-/// The row over a library and sinks that don't fail.
+/// The row over a library and sinks that don't fail. The file is read once, each line is one put, and the report is one
+/// put or none.
 fn check(rt: &impl Abort, alloc: Global, row: &Row) -> Result<(), Fail> {
     let words = words_of(alloc, row.words)?;
-    let mut lib = SoundLibrary {
+    let mut lib = MemLibrary {
         files: files(alloc, row.path, row.text)?,
+        fails: Vec::new(alloc),
+        calls: 0,
+        faults: 0,
     };
-    let mut out = sink(alloc);
-    let mut report = sink(alloc);
+    let mut out = sink(alloc, Vec::new(alloc));
+    let mut report = sink(alloc, Vec::new(alloc));
     let mut probes: Vec<Box<dyn Probe>> = Vec::new(alloc);
     let status = dpc(alloc, &words, &mut lib, &mut out, &mut report, &mut probes);
     assert_eq!(rt; status, row.status);
     assert_eq!(rt; out.bytes.as_slice(), row.out);
     assert_eq!(rt; report.bytes.as_slice(), row.report);
+    let lines = row.out.iter().filter(|byte| **byte == b'\n').count();
+    assert_eq!(rt; lib.calls == 0, row.status == Status::Usage);
+    assert!(rt; lib.calls < 2);
+    assert_eq!(rt; out.calls, lines as u64);
+    assert_eq!(rt; report.calls == 1, row.report.len() != 0);
+    assert!(rt; report.calls < 2);
     Ok(())
 }
 
@@ -199,15 +212,6 @@ fn words_are_read(rt: HostRuntime) -> Result<(), Fail> {
     Ok(())
 }
 
-fn failing(alloc: Global, put: u64) -> Result<MemSink, Fail> {
-    Ok(MemSink {
-        bytes: Text::new(alloc),
-        fails: vec![in alloc; put]?,
-        calls: 0,
-        faults: 0,
-    })
-}
-
 #[test]
 fn nothing_is_put_after_a_put_that_failed(rt: HostRuntime) -> Result<(), Fail> {
     let alloc = rt.alloc();
@@ -217,8 +221,8 @@ fn nothing_is_put_after_a_put_that_failed(rt: HostRuntime) -> Result<(), Fail> {
     let words = words_of(alloc, &["run", "a.d"])?;
     let mut probes: Vec<Box<dyn Probe>> = Vec::new(alloc);
     for put in 1..4u64 {
-        let mut out = failing(alloc, put)?;
-        let mut report = sink(alloc);
+        let mut out = sink(alloc, vec![in alloc; put]?);
+        let mut report = sink(alloc, Vec::new(alloc));
         let status = dpc(alloc, &words, &mut lib, &mut out, &mut report, &mut probes);
         let whole = put == 3;
         assert_eq!(rt; status == Status::Done, whole);
@@ -250,8 +254,8 @@ fn faults_have_their_causes(rt: HostRuntime) -> Result<(), Fail> {
         calls: 0,
         faults: 0,
     };
-    let mut out = sink(alloc);
-    let mut report = failing(alloc, 2)?;
+    let mut out = sink(alloc, Vec::new(alloc));
+    let mut report = sink(alloc, vec![in alloc; 2]?);
     let first = dpc(alloc, &words, &mut lib, &mut out, &mut report, &mut probes);
     assert_eq!(rt; first, Status::ReadFault);
     assert_eq!(rt; report.bytes.as_slice(), b"read fault: a.d\n".as_slice());
