@@ -1,0 +1,17 @@
+pub mod SignTable
+pub mod Closing
+pub mod Runs
+pub mod Starts
+pub mod Signs
+pub mod Enclosing
+pub mod Comments
+pub mod Finding
+pub mod Scanning
+pub mod TokenStrings
+pub mod Names
+pub mod Strings
+pub mod Numbers
+pub mod Inner
+pub mod Hexadecimals
+pub mod Quotes
+pub mod OneKind

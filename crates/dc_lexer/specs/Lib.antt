@@ -1,0 +1,4 @@
+pub mod Fronts
+pub mod Leads
+pub mod SignBytes
+pub mod Outcome

@@ -1,0 +1,17 @@
+//! Cuts a D text into tokens.
+#![tactic(auto)]
+
+mod comment;
+mod lead;
+mod name;
+mod number;
+mod plain;
+mod scan;
+mod set;
+mod sign;
+mod string;
+#[cfg(test)]
+mod tests;
+mod token_string;
+
+pub use scan::{laws, lex};

@@ -1,0 +1,4 @@
+pub mod Lists
+pub mod Hex
+pub mod Values
+pub mod Characters

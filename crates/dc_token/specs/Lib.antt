@@ -1,0 +1,12 @@
+pub mod Balance
+pub mod Vocabulary
+pub mod Bytes
+pub mod Comments
+pub mod Names
+pub mod Escapes
+pub mod Strings
+pub mod Numbers
+pub mod Literals
+pub mod Signs
+pub mod Items
+pub mod Text
