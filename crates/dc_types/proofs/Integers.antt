@@ -1,14 +1,17 @@
 -- Laws of the whole numbers of a kind.
-use Rattle.std.proofs.Common.{◌≡◌, ℕ, zero, suc, ◌+◌, ◌-◌, ◌*◌, ◌/◌, ◌%◌, ◌^◌, ◌<◌, ◌≤◌, Bool, true, false, cond, ℤ, pos, negsuc, neg_ℤ, ◌+ℤ◌, ◌-ℤ◌, ◌*ℤ◌, ◌≤ℤ◌, ◌<ℤ◌, unsigned_abs, refl, sym, ap, ◌∙◌, arith, subst, Ok, Err, Result, nat_lt, ltb-true, ltb-false, lt-ltb, le-ltb}
-use Rattle.std.specs.Int.{int_rem_euclid, int_wrap, w8, w16, w32, w64, w128, Width}
-use Rattle.std.proofs.lemmas.Int.{ints, int_rem_euclid_is}
+use Rattle.std.proofs.Common.{◌≡◌, ℕ, zero, suc, ◌+◌, ◌-◌, ◌*◌, ◌/◌, ◌%◌, ◌^◌, ◌<◌, ◌≤◌, Bool, true, false, cond, ℤ, pos, negsuc, neg_ℤ, ◌+ℤ◌, ◌-ℤ◌, ◌≤ℤ◌, ◌<ℤ◌, unsigned_abs, refl, sym, ap, ◌∙◌, arith, subst, nat_lt, ltb-true, ltb-false, lt-ltb, le-ltb, lit≤}
+use Rattle.std.specs.Int.{int_wrap, cast_unsigned, w8, w16, w32, w64, w128, Width}
+use Rattle.std.specs.Int.RustNames.{FitsSigned}
+use mir.Val.{bits as width_bits, hbits}
+use Rattle.std.proofs.lemmas.Int.{ints, int_rem_euclid_is, of_z-to_z, SFits-int_wrap, int_wrap_fits}
 use Rattle.std.proofs.lemmas.Bool.Decides.{Decides-int_eq, not_from_Decides}
 use Rattle.std.specs.Bool.{Decides}
 use Rattle.std.specs.Ordering.{int_eq}
 use Rattle.std.proofs.Math.Pow.{pow_pos}
-use Rattle.std.proofs.Math.Nat.{mod-lt, mod-eq_of_lt}
-use borrow.Author.Differences.{up, down, same_in, same_out, sum_is_lem, neg_is, product_is}
-use Rattle.dc_types.specs.Integers.{bits_of, is_signed, least, greatest, InKind, residue, signed_residue, truth, wrap, can_divide, can_shift, binary, unary, compare}
+use Rattle.std.proofs.Math.Nat.{mod-lt, mod-eq_of_lt, mul_comm, mul_assoc, mul-le-mul_left, div-add-mod'}
+use Rattle.std.proofs.lemmas.Nat.{pow-add}
+use borrow.Author.Differences.{up, down}
+use Rattle.dc_types.specs.Integers.{bits_of, least, greatest, InKind, residue, signed_residue, truth, wrap}
 use Rattle.dc_types.specs.declared.kind.Kind.{Kind}
 use Rattle.dc_types.specs.declared.kind.Kind.TheVariants as kind
 
@@ -16,6 +19,10 @@ pub residue_below : (bits : ℕ) (z : ℤ) → residue bits z < 2 ^ bits
 unfolding residue
 residue_below bits (pos n) = mod-lt n (pow_pos bits)
 residue_below bits (negsuc n) = let some = pow_pos bits in omega arith
+
+residue_pos : (bits n : ℕ) → residue bits (pos n) ≡ n % 2 ^ bits
+unfolding residue
+residue_pos bits n = refl
 
 -- a number from 0 up that has no more bits is its own residue
 pub residue_small : (bits n : ℕ) → n < 2 ^ bits → residue bits (pos n) ≡ n
@@ -156,3 +163,156 @@ in_kind_wide kind.U16 z h = (omega (arith, ints, h.at_least), omega (arith, ints
 in_kind_wide kind.U32 z h = (omega (arith, ints, h.at_least), omega (arith, ints, h.at_most))
 in_kind_wide kind.U64 z h = (omega (arith, ints, h.at_least), omega (arith, ints, h.at_most))
 in_kind_wide kind.Char z h = (omega (arith, ints, h.at_least), omega (arith, ints, h.at_most))
+
+half_within : (w : Width) → 2 ^ hbits w ≤ 2 ^ width_bits w
+half_within w8 = lit≤ tt
+half_within w16 = lit≤ tt
+half_within w32 = lit≤ tt
+half_within w64 = lit≤ tt
+half_within w128 = lit≤ tt
+
+-- a and b differ by a multiple of 2 ^ bits
+pub residue_same : (bits : ℕ) (a b : ℤ) (j k : ℕ) → a +ℤ pos (j * 2 ^ bits) ≡ b +ℤ pos (k * 2 ^ bits) → residue bits a ≡ residue bits b
+unfolding residue
+residue_same bits a b j k e =
+    let m = 2 ^ bits in
+    let some = pow_pos bits in
+    let t = down a + down b in
+    let far : t * 1 ≤ t * m = mul-le-mul_left t some in
+    let n = up a + (j + t) * m - down a in
+    let from : (z : ℤ) (i : ℕ) → z +ℤ pos ((i + t) * m) ≡ pos n → residue bits z ≡ n % m = λ z i h. ap unsigned_abs (int_rem_euclid_is z (pos m) m (i + t) n some refl h) in
+    from a j (omega (arith, ints)) ∙ sym (from b k (omega (arith, ints)))
+
+-- a number and its residue differ by a multiple of 2 ^ bits
+pub residue_left : (bits : ℕ) (z : ℤ) → (j : ℕ) × (k : ℕ) × (pos (residue bits z) +ℤ pos (j * 2 ^ bits) ≡ z +ℤ pos (k * 2 ^ bits))
+unfolding residue
+residue_left bits (pos n) = (n / 2 ^ bits, 0, omega (arith, ints, div-add-mod' n (2 ^ bits)))
+residue_left bits (negsuc n) =
+    let small = mod-lt n (pow_pos bits) in
+    (0, n / 2 ^ bits + 1, omega (arith, ints, div-add-mod' n (2 ^ bits)))
+
+multiple : (bits more j : ℕ) → j * 2 ^ (bits + more) ≡ (j * 2 ^ more) * 2 ^ bits
+multiple bits more j = ap (λ n. j * n) (pow-add 2 bits more ∙ mul_comm (2 ^ bits) (2 ^ more)) ∙ sym (mul_assoc j (2 ^ more) (2 ^ bits))
+
+-- to reduce to more bits first changes nothing
+pub residue-residue : (bits more : ℕ) (z : ℤ) → residue bits (pos (residue (bits + more) z)) ≡ residue bits z
+residue-residue bits more z =
+    let l = residue_left (bits + more) z in
+    residue_same bits (pos (residue (bits + more) z)) z (l.0 * 2 ^ more) (l.1 * 2 ^ more) (ap (λ n. pos (residue (bits + more) z) +ℤ pos n) (sym (multiple bits more l.0)) ∙ l.2 ∙ ap (λ n. z +ℤ pos n) (multiple bits more l.1))
+
+-- Two's complement in the bits of a signed type: of a number that it holds, the lowest bits are the residue.
+pub mod-cast_unsigned : (w : Width) (bits more : ℕ) → bits + more ≡ width_bits w → (z : ℤ) → FitsSigned w z → cast_unsigned w z % 2 ^ bits ≡ residue bits z
+mod-cast_unsigned w bits more e (pos n) h = sym (residue_pos bits n)
+mod-cast_unsigned w bits more e (negsuc n) h =
+    let m = 2 ^ width_bits w in
+    let whole : m ≡ 2 ^ more * 2 ^ bits = ap (λ k. 2 ^ k) (sym e) ∙ pow-add 2 bits more ∙ mul_comm (2 ^ bits) (2 ^ more) in
+    let within : suc n ≤ m = omega (arith, h.sfits, half_within w) in
+    sym (residue_pos bits (m - suc n)) ∙ residue_same bits (pos (m - suc n)) (negsuc n) 0 (2 ^ more) (omega (arith, ints))
+
+-- to reduce to a signed type with as many bits or more changes nothing
+pub residue-int_wrap : (w : Width) (bits more : ℕ) → bits + more ≡ width_bits w → (z : ℤ) → residue bits (int_wrap w z) ≡ residue bits z
+unfolding int_wrap residue
+residue-int_wrap w bits more e z =
+    let whole : residue (bits + more) z ≡ residue (width_bits w) z = ap (λ n. residue n z) e in
+    sym (mod-cast_unsigned w bits more e (int_wrap w z) (SFits-int_wrap w z))
+    ∙ ap (λ n. n % 2 ^ bits) (of_z-to_z w (residue (width_bits w) z) (residue_below (width_bits w) z) ∙ sym whole)
+    ∙ residue-residue bits more z
+
+signed_residue_same : (bits : ℕ) (a b : ℤ) → residue bits a ≡ residue bits b → signed_residue bits a ≡ signed_residue bits b
+unfolding signed_residue
+signed_residue_same bits a b e = ap (λ r. cond (nat_lt r (2 ^ (bits - 1))) (pos r) (pos r -ℤ pos (2 ^ bits))) e
+
+-- in each kind but `bool`, what a number becomes goes by its residue alone
+pub wrap_same : (k : Kind) → (k ≡ kind.Bool → ⊥) → (a b : ℤ) → residue (bits_of k) a ≡ residue (bits_of k) b → wrap k a ≡ wrap k b
+unfolding wrap bits_of
+wrap_same kind.Bool ne a b e = absurd (ne refl)
+wrap_same kind.I8 ne a b e = signed_residue_same 8 a b e
+wrap_same kind.I16 ne a b e = signed_residue_same 16 a b e
+wrap_same kind.I32 ne a b e = signed_residue_same 32 a b e
+wrap_same kind.I64 ne a b e = signed_residue_same 64 a b e
+wrap_same kind.U8 ne a b e = ap pos e
+wrap_same kind.U16 ne a b e = ap pos e
+wrap_same kind.U32 ne a b e = ap pos e
+wrap_same kind.U64 ne a b e = ap pos e
+wrap_same kind.Char ne a b e = ap pos e
+
+pub bits_of_at_most : (k : Kind) → bits_of k ≤ 64
+unfolding bits_of
+bits_of_at_most kind.Bool = lit≤ tt
+bits_of_at_most kind.I8 = lit≤ tt
+bits_of_at_most kind.I16 = lit≤ tt
+bits_of_at_most kind.I32 = lit≤ tt
+bits_of_at_most kind.I64 = lit≤ tt
+bits_of_at_most kind.U8 = lit≤ tt
+bits_of_at_most kind.U16 = lit≤ tt
+bits_of_at_most kind.U32 = lit≤ tt
+bits_of_at_most kind.U64 = lit≤ tt
+bits_of_at_most kind.Char = lit≤ tt
+
+-- `bool`, or another kind
+pub by_bool : {P : Type 0} (k : Kind) → (k ≡ kind.Bool → P) → ((k ≡ kind.Bool → ⊥) → P) → P
+by_bool kind.Bool f g = f refl
+by_bool kind.I8 f g = g (λ e. cc)
+by_bool kind.I16 f g = g (λ e. cc)
+by_bool kind.I32 f g = g (λ e. cc)
+by_bool kind.I64 f g = g (λ e. cc)
+by_bool kind.U8 f g = g (λ e. cc)
+by_bool kind.U16 f g = g (λ e. cc)
+by_bool kind.U32 f g = g (λ e. cc)
+by_bool kind.U64 f g = g (λ e. cc)
+by_bool kind.Char f g = g (λ e. cc)
+
+-- a result may be reduced to 128 bits first, if it isn't one of `bool` that needs more
+pub wrap-int_wrap : (k : Kind) (z : ℤ) → (k ≡ kind.Bool → FitsSigned w128 z) → wrap k (int_wrap w128 z) ≡ wrap k z
+wrap-int_wrap k z fits = by_bool k (λ e. ap (wrap k) (int_wrap_fits w128 z (fits e))) (λ ne. let small = bits_of_at_most k in wrap_same k ne (int_wrap w128 z) z (residue-int_wrap w128 (bits_of k) (128 - bits_of k) (omega arith) z))
+
+-- a number of `bool` is 0 or 1
+pub by_digit : (P : ℤ → Type 0) (a : ℤ) → InKind kind.Bool a → P (pos 0) → P (pos 1) → P a
+unfolding least greatest
+by_digit P (pos zero) h p q = p
+by_digit P (pos (suc zero)) h p q = q
+by_digit P (pos (suc (suc n))) h p q = absurd (omega (arith, ints, h.at_most))
+by_digit P (negsuc n) h p q = absurd (omega (arith, ints, h.at_least))
+
+flip_bool : (a : ℤ) → InKind kind.Bool a → wrap kind.Bool (pos (2 ^ 8 - 1 - residue 8 a)) ≡ wrap kind.Bool (neg_ℤ a -ℤ pos 1)
+unfolding wrap truth residue
+flip_bool a h = by_digit (λ a. wrap kind.Bool (pos (2 ^ 8 - 1 - residue 8 a)) ≡ wrap kind.Bool (neg_ℤ a -ℤ pos 1)) a h refl refl
+
+-- `~a` is -a - 1
+pub wrap-flip : (k : Kind) (a : ℤ) → InKind k a → wrap k (pos (2 ^ bits_of k - 1 - residue (bits_of k) a)) ≡ wrap k (neg_ℤ a -ℤ pos 1)
+unfolding bits_of
+wrap-flip k a h = by_bool k
+    (λ e. subst (λ j. wrap j (pos (2 ^ bits_of j - 1 - residue (bits_of j) a)) ≡ wrap j (neg_ℤ a -ℤ pos 1)) (sym e) (flip_bool a (subst (λ j. InKind j a) e h)))
+    (λ ne. wrap_same k ne (pos (2 ^ bits_of k - 1 - residue (bits_of k) a)) (neg_ℤ a -ℤ pos 1) (other (bits_of k)))
+  where
+    other : (bits : ℕ) → residue bits (pos (2 ^ bits - 1 - residue bits a)) ≡ residue bits (neg_ℤ a -ℤ pos 1)
+    other bits =
+        let l = residue_left bits a in
+        let below = residue_below bits a in
+        residue_same bits (pos (2 ^ bits - 1 - residue bits a)) (neg_ℤ a -ℤ pos 1) l.1 (suc l.0) (omega (arith, ints, l.2))
+
+residue_again : (bits : ℕ) (z : ℤ) → residue bits (pos (residue bits z)) ≡ residue bits z
+residue_again bits z = residue_small bits (residue bits z) (residue_below bits z)
+
+-- the signed number has the same residue
+pub residue-signed_residue : (bits : ℕ) (z : ℤ) → residue bits (signed_residue bits z) ≡ residue bits z
+unfolding signed_residue
+residue-signed_residue bits z = by (nat_lt (residue bits z) (2 ^ (bits - 1)))
+  where
+    by : (t : Bool) → residue bits (cond t (pos (residue bits z)) (pos (residue bits z) -ℤ pos (2 ^ bits))) ≡ residue bits z
+    by true = residue_again bits z
+    by false = residue_same bits (pos (residue bits z) -ℤ pos (2 ^ bits)) (pos (residue bits z)) 1 0 (omega (arith, ints)) ∙ residue_again bits z
+
+-- Reduced to a kind other than `bool`, a number differs from what it was by a multiple of 2 ^ bits.
+pub residue-wrap : (k : Kind) → (k ≡ kind.Bool → ⊥) → (z : ℤ) → residue (bits_of k) (wrap k z) ≡ residue (bits_of k) z
+unfolding wrap bits_of
+residue-wrap kind.Bool ne z = absurd (ne refl)
+residue-wrap kind.I8 ne z = residue-signed_residue 8 z
+residue-wrap kind.I16 ne z = residue-signed_residue 16 z
+residue-wrap kind.I32 ne z = residue-signed_residue 32 z
+residue-wrap kind.I64 ne z = residue-signed_residue 64 z
+residue-wrap kind.U8 ne z = residue_again 8 z
+residue-wrap kind.U16 ne z = residue_again 16 z
+residue-wrap kind.U32 ne z = residue_again 32 z
+residue-wrap kind.U64 ne z = residue_again 64 z
+residue-wrap kind.Char ne z = residue_again 8 z

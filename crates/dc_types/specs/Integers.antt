@@ -108,6 +108,20 @@ can_divide k a b = not (int_eq b (pos 0)) && not (int_eq a (least k) && int_eq b
 unfoldable pub can_shift : Kind → ℤ → Bool
 can_shift k n = int_le (pos 0) n && int_lt n (pos (bits_of k))
 
+-- b may stand to the right of an operator on numbers of a kind: it is one of them, and for a shift any number
+abbrev pub FitsRight : BinOp → Kind → ℤ → Type 0
+FitsRight binop.Add k b = InKind k b
+FitsRight binop.Sub k b = InKind k b
+FitsRight binop.Mul k b = InKind k b
+FitsRight binop.Div k b = InKind k b
+FitsRight binop.Rem k b = InKind k b
+FitsRight binop.BitAnd k b = InKind k b
+FitsRight binop.BitOr k b = InKind k b
+FitsRight binop.BitXor k b = InKind k b
+FitsRight binop.Shl k b = Unit {0}
+FitsRight binop.Shr k b = Unit {0}
+FitsRight binop.Ushr k b = Unit {0}
+
 -- What `a op b` is in a kind, or the trap that it meets. `/` rounds towards zero, and `%` has the sign of a.
 -- `>>` rounds down, which keeps the sign, and `>>>` shifts zeros into the two's complement of a.
 unfoldable pub binary : BinOp → Kind → ℤ → ℤ → Result ℤ TrapKind

@@ -1,0 +1,12 @@
+pub mod Behind
+pub mod LastByte
+pub mod Pieces
+pub mod Wrapping
+pub mod Printing
+pub mod Options
+pub mod ReadingTokens
+pub mod Literals
+pub mod Sequences
+pub mod Forms
+pub mod Programs
+pub mod Endings

@@ -1,0 +1,9 @@
+pub mod Words
+pub mod Names
+pub mod Tokens
+pub mod Lexing
+pub mod Grammar
+pub mod Reading
+pub mod Reports
+pub mod Answers
+pub mod Laws

@@ -1,0 +1,40 @@
+//! The compiler over files, standard output and standard error.
+#![tactic(auto)]
+
+mod adapters;
+mod status;
+#[cfg(test)]
+mod tests;
+
+use adapters::{FileLibrary, Writing};
+use dc_top::dpc;
+use dc_types::Status;
+use status::number_of;
+use std::alloc::{AllocError, Global};
+use std::env;
+use std::process::ExitCode;
+
+/// The words after the program's name. Where one of them is no UTF-8 there are none.
+fn words(rt: &HostRuntime, alloc: Global) -> Result<Vec<String>, AllocError> {
+    let mut words = Vec::new(alloc);
+    let Ok(all) = env::args(rt) else {
+        return Ok(words);
+    };
+    for word in all.skip(1) {
+        words.push(word)?;
+    }
+    Ok(words)
+}
+
+fn main(rt: HostRuntime) -> ExitCode {
+    let alloc = rt.alloc();
+    let Ok(words) = words(&rt, alloc) else {
+        return ExitCode::from(number_of(Status::NoMemory));
+    };
+    let mut out = Writing::new(rt.stdout());
+    let mut report = Writing::new(rt.stderr());
+    let mut lib = FileLibrary::new(rt);
+    let mut probes = Vec::new(alloc);
+    let status = dpc(alloc, &words, &mut lib, &mut out, &mut report, &mut probes);
+    ExitCode::from(number_of(status))
+}
