@@ -1,0 +1,7 @@
+mod Examples
+pub mod Words
+pub mod Loops
+pub mod Fitting
+pub mod Keeps
+pub mod Ends
+pub mod Once

@@ -1,0 +1,11 @@
+pub mod Slots
+pub mod Sound
+pub mod State
+pub mod Numbers
+pub mod Blocks
+pub mod Effect
+pub mod Table
+pub mod Perform
+pub mod Exec
+pub mod Standing
+pub mod Laws

@@ -1,0 +1,10 @@
+pub mod Puts
+pub mod Ranges
+pub mod Calls
+pub mod Ops
+pub mod Advance
+pub mod Fit
+pub mod Loop
+pub mod Firsts
+pub mod Begin
+pub mod Reports

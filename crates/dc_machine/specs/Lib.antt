@@ -1,0 +1,7 @@
+pub mod After
+pub mod Computed
+pub mod Printed
+pub mod Running
+pub mod Runs
+pub mod Loaded
+pub mod Program
