@@ -1,2 +1,4 @@
 pub mod Integers
 pub mod Events
+pub mod Same
+pub mod Exact
