@@ -19,7 +19,7 @@ use Rattle.dc_machine.specs.declared.state.Next.TheVariants.{Goes, Turns, Enters
 use Rattle.dc_machine.specs.declared.state.Stop.{Stop}
 use Rattle.dc_machine.specs.declared.state.Stop.TheVariants as stop
 use Rattle.dc_machine.specs.After.{machine_of, entering, stopped, Leads, Wants}
-use Rattle.dc_machine.specs.Printed.{printed}
+use Rattle.dc_types.specs.Events.{printed}
 use Rattle.dc_machine.specs.Running.{Stepped, IsTaking, GoesOn, end_at, Halts, Breaks}
 
 pub stepped : (code : Draft) (limits : Limits) (i : Instr) (o : Op) (m : State) (next : Next) (m' : State) → slice_get code.instrs m.pc ≡ Some i → o ≡ i.op → Leads code limits o m next m' → Stepped code limits m next m'

@@ -15,13 +15,13 @@ use Rattle.dc_machine.specs.declared.state.Halt.{Halt}
 use Rattle.dc_machine.specs.declared.state.Fault.{Fault}
 use Rattle.dc_machine.specs.declared.state.Fault.TheVariants.{NoMemory, Failed}
 use Rattle.dc_machine.specs.After.{KeepsRoom, machine_of}
-use Rattle.dc_machine.specs.Printed.{text_in, printed}
+use Rattle.dc_types.specs.Events.{bytes_of, printed}
 use Rattle.dc_machine.specs.Running.{Ready, Begins, IsTaking, GoesOn, Halts, Breaks, Advances, Ended, Broken, ComesToTake, Runs, Comes}
 use Rattle.dc_machine.proofs.Advance.{same_appends}
 
 printed-append : (xs ys : List Event) → printed (xs ++ ys) ≡ printed xs ++ printed ys
 printed-append [] ys = refl
-printed-append (x ∷ xs) ys = ap (λ l. text_in x ++ l) (printed-append xs ys) ∙ sym (append_assoc (text_in x) (printed xs) (printed ys))
+printed-append (x ∷ xs) ys = ap (λ l. bytes_of x ++ l) (printed-append xs ys) ∙ sym (append_assoc (bytes_of x) (printed xs) (printed ys))
 
 -- ---- bytes
 

@@ -1,6 +1,5 @@
 pub mod After
 pub mod Computed
-pub mod Printed
 pub mod Running
 pub mod Runs
 pub mod Loaded

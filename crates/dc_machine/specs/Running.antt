@@ -16,7 +16,7 @@ use Rattle.dc_machine.specs.declared.state.Stop.{Stop}
 use Rattle.dc_machine.specs.declared.state.Fault.{Fault}
 use Rattle.dc_machine.specs.declared.state.Fault.TheVariants.{NoMemory, Failed}
 use Rattle.dc_machine.specs.After.{machine_of, stopped, after}
-use Rattle.dc_machine.specs.Printed.{printed}
+use Rattle.dc_types.specs.Events.{printed}
 
 -- The machine stands between two instructions, with room for all frames that the limits allow.
 pub record Ready (code : Draft) (limits : Limits) (m : State) : Type 0 where

@@ -12,7 +12,7 @@ use Rattle.dc_code.specs.declared.code.Draft.{Draft}
 use Rattle.dc_code.specs.declared.run.Block.{Block}
 use Rattle.dc_machine.specs.declared.report.RunEnd.{RunEnd}
 use Rattle.dc_machine.specs.declared.report.RunEnd.TheVariants as run
-use Rattle.dc_machine.specs.Printed.{printed}
+use Rattle.dc_types.specs.Events.{printed}
 
 -- The run ends so, and what its events print went to the sink.
 pub record EndsSo (code : Draft) (entry : ℕ) (limits : Limits) (old new : Option (List ℕ)) (end : End) : Type 0 where

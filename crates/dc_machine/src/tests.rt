@@ -2,7 +2,7 @@
 use crate::{Machine, RunEnd, is_simple_code};
 use dc_code::{Code, Draft, Function, Instr, Op};
 use dc_edge::{MemSink, Probe};
-use dc_types::{BinOp, CmpOp, Items, Kind, Limits, Place, Step, Text, TrapKind};
+use dc_types::{BinOp, CmpOp, Items, Kind, Limits, Place, Step, Text, Trap, TrapKind};
 use std::alloc::{AllocError, Global};
 use std::test::Fail;
 
@@ -78,7 +78,15 @@ fn limits(ticks: u64) -> Limits {
     }
 }
 
-/// The trap and the offset of a run that trapped.
+/// The trap and the offset of its place.
+fn offset_of(trap: &Trap) -> Result<(TrapKind, u32), Fail> {
+    match trap.place.steps.as_slice() {
+        [Step::At(at)] => Ok((trap.kind, *at)),
+        _ => Err("another place".into()),
+    }
+}
+
+/// The trap of a run that trapped, and its offset.
 fn trap(
     alloc: Global,
     shapes: &[[u32; 4]],
@@ -86,11 +94,9 @@ fn trap(
     limits: Limits,
 ) -> Result<(TrapKind, u32), Fail> {
     let code = code(alloc, shapes, ops)?.ok_or("unsound")?;
-    match run(alloc, &code, limits, 0)?.0 {
-        RunEnd::Trapped(trap) => match trap.place.steps.as_slice() {
-            [Step::At(at)] => Ok((trap.kind, *at)),
-            _ => Err("another place".into()),
-        },
+    let (end, _) = run(alloc, &code, limits, 0)?;
+    match end {
+        RunEnd::Trapped(trap) => offset_of(&trap),
         _ => Err("no trap".into()),
     }
 }
