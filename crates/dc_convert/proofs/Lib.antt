@@ -1,0 +1,4 @@
+pub mod Ends
+pub mod Sound
+pub mod Bases
+pub mod Keeping

@@ -1,0 +1,13 @@
+use Rattle.std.proofs.Common.{◌≡◌, ◌∙◌, refl, sym}
+use Rattle.dc_types.specs.Exact.{ty-Decides}
+use Rattle.dc_convert.proofs.Keeping.{differ}
+use Rattle.dc_convert.proofs.levels.converts.Goals as goal
+
+pub returns-then-same_ty-clause-same : goal.returns-then-same_ty-clause-same
+returns-then-same_ty-clause-same c = (λ e. (ty-Decides _ _).0 (sym c.same_ty.ensures ∙ c.if-same_ty.true), λ e. refl)
+
+pub returns-then-fits-clause-same : goal.returns-then-fits-clause-same
+returns-then-fits-clause-same c = (λ e. absurd (cc), λ e. absurd (differ _ _ (sym c.same_ty.ensures ∙ c.if-same_ty.false) e))
+
+pub returns-else-fits-clause-same : goal.returns-else-fits-clause-same
+returns-else-fits-clause-same c = (λ e. absurd (cc), λ e. absurd (differ _ _ (sym c.same_ty.ensures ∙ c.if-same_ty.false) e))
