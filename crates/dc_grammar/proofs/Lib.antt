@@ -1,0 +1,14 @@
+pub mod Good
+pub mod Lists
+pub mod Choices
+pub mod Tools
+pub mod Turns
+pub mod Forms
+pub mod Edges
+pub mod Dotted
+pub mod Arguments
+pub mod Rules
+pub mod Laws
+pub mod Meanings
+pub mod Tables
+pub mod Past

@@ -1,0 +1,9 @@
+pub mod Terminals
+pub mod Reading
+pub mod Trees
+pub mod Grammar
+pub mod Readers
+pub mod Gives
+pub mod Loops
+pub mod Nesting
+pub mod Reads

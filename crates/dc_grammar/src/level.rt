@@ -1,0 +1,10 @@
+/// Where an expression stands: which operators it may have outside of brackets.
+#[derive(Clone, Copy, Debug)]
+pub enum Level {
+    /// Any.
+    Whole,
+    /// All but those that assign.
+    Conditional,
+    /// Those before and behind an operand alone.
+    Unary,
+}
