@@ -35,12 +35,15 @@ fn step(
     act(m, alloc, code, limits, ops[m.pc])
 }
 
-/// The pending text goes to the sink.
+/// The pending text goes to the sink. An empty text is no put.
 fn print<S: Sink>(pending: &mut Vec<u8>, out: &mut S) -> Result<(), SinkFault>
     ensures empty { OnOk result (pending.new.items ≡ []) }
     ensures content { Takes (S.taken out.old) (S.taken out.new) pending.old.items result }
     ensures cause { CountsFaults (S.faults out.old) (S.faults out.new) (IsErrOf result SinkFault.Failed) }
 {
+    if pending.is_empty() {
+        return Ok(());
+    }
     match out.put(pending.as_slice()) {
         Ok(()) => {
             pending.clear();

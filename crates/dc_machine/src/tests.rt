@@ -202,13 +202,14 @@ fn a_failing_put_ends_the_run(rt: HostRuntime) -> Result<(), Fail> {
         Op::Return(0, 0),
     ];
     let code = code(alloc, &[[0, 2, 0, 0]], &ops)?.ok_or("unsound")?;
-    let rows: [(u64, &[u8]); 3] = [(1, b""), (2, b"hi"), (3, b"hifalse0")];
+    let rows: [(u64, &[u8]); 2] = [(1, b""), (2, b"hi")];
     for (failing, taken) in rows {
         let (end, text) = run(alloc, &code, limits(0), failing)?;
         assert!(rt; matches!(end, RunEnd::WriteFault), "{failing}");
         assert_eq!(rt; text.as_slice(), taken);
     }
-    let (end, text) = run(alloc, &code, limits(0), 4)?;
+    // the last Flush has nothing to print, so there is no third put
+    let (end, text) = run(alloc, &code, limits(0), 3)?;
     assert!(rt; matches!(end, RunEnd::Value(0)));
     assert_eq!(rt; text.as_slice(), b"hifalse0".as_slice());
     Ok(())
