@@ -1,3 +1,12 @@
 pub mod Integers
 pub mod Values
 pub mod Trees
+pub mod Counting
+pub mod Settling
+pub mod Starting
+pub mod Joining
+pub mod Turning
+pub mod Digits
+pub mod Depths
+pub mod Skipping
+pub mod Reading

@@ -1,11 +1,11 @@
 -- Lists of trees, as a loop goes over two at once.
-use Rattle.std.proofs.Common.{◌≡◌, ◌∙◌, refl, sym, ap, subst, ℕ, ◌<◌, ◌≤◌, Bool, true, false, ◌&&◌, List, [], ◌∷◌, map, length, drop, get_or, drop-cons, suc, arith}
+use Rattle.std.proofs.Common.{◌≡◌, ◌∙◌, refl, sym, ap, ℕ, ◌<◌, ◌≤◌, Bool, true, false, ◌&&◌, List, [], ◌∷◌, map, length, drop, get_or, drop-cons, suc, arith}
 use Rattle.std.proofs.Math.ListN.{drop_of_length-le}
 use Rattle.std.specs.Cmp.Lexicographic.{pointwise}
 use Rattle.dc_types.specs.declared.constant.CTree.{CTree}
 use Rattle.dc_types.specs.declared.constant.CTree.TheVariants as ctree
 use Rattle.dc_types.specs.declared.constant.CTree.TheVariants.{rolls-List}
-use Rattle.dc_types.specs.declared.constant.CTree.TheViews.{out-CTree, roll-CTree, out-roll-CTree}
+use Rattle.dc_types.specs.declared.constant.CTree.TheViews.{out-CTree, out-roll-CTree}
 use Rattle.dc_types.specs.declared.constant.CTree.TheOpen.{CTree-F}
 use Rattle.dc_types.specs.declared.constant.CTree.TheFolds.{fold-roll-CTree}
 use Rattle.dc_types.specs.Same as same

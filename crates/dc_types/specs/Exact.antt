@@ -1,5 +1,5 @@
 -- The tests of equality of specs/Same answer true exactly for equal ones.
-use Rattle.std.proofs.Common.{rules, ◌≡◌, ◌≢◌, ◌∙◌, refl, sym, ap, subst, ℕ, List, [], ◌∷◌, map, Bool, true, false, ◌&&◌, ◌==◌}
+use Rattle.std.proofs.Common.{rules, ◌≡◌, ◌∙◌, refl, sym, ap, subst, ℕ, List, [], ◌∷◌, map, Bool, true, false, ◌&&◌, ◌==◌}
 use Rattle.std.specs.Bool.{Decides}
 use Rattle.std.specs.Str.{bytes_eq}
 use Rattle.std.specs.Ordering.{int_eq}
@@ -17,12 +17,17 @@ use Rattle.dc_types.specs.declared.place.Place.{Place}
 use Rattle.dc_types.specs.declared.ty.Ty.{Ty, map-Ty}
 use Rattle.dc_types.specs.declared.ty.Ty.TheViews.{out-Ty, roll-Ty, out-roll-Ty, roll-out-Ty}
 use Rattle.dc_types.specs.declared.ty.Ty.TheOpen.{Ty-F}
-use Rattle.dc_types.specs.declared.ty.Ty.TheFolds.{fold-Ty, fold-roll-Ty, ind-Ty}
+use Rattle.dc_types.specs.declared.ty.Ty.TheFolds.{fold-roll-Ty, ind-Ty}
+use Rattle.dc_types.specs.declared.pattern.Length.{Length}
+use Rattle.dc_types.specs.declared.pattern.Length.TheVariants as lengths
+use Rattle.dc_types.specs.declared.pattern.Pattern.{Pattern, map-Pattern}
+use Rattle.dc_types.specs.declared.pattern.Pattern.TheViews.{out-Pattern, roll-Pattern, out-roll-Pattern, roll-out-Pattern}
+use Rattle.dc_types.specs.declared.pattern.Pattern.TheOpen.{Pattern-F}
+use Rattle.dc_types.specs.declared.pattern.Pattern.TheFolds.{fold-roll-Pattern, ind-Pattern}
 use Rattle.dc_types.specs.declared.constant.CTree.{CTree, map-CTree}
 use Rattle.dc_types.specs.declared.constant.CTree.TheViews.{out-CTree, roll-CTree, out-roll-CTree, roll-out-CTree}
 use Rattle.dc_types.specs.declared.constant.CTree.TheOpen.{CTree-F}
-use Rattle.dc_types.specs.declared.constant.CTree.TheFolds.{fold-CTree, fold-roll-CTree, ind-CTree}
-use Rattle.dc_types.specs.declared.constant.Const.{Const}
+use Rattle.dc_types.specs.declared.constant.CTree.TheFolds.{fold-roll-CTree, ind-CTree}
 use Rattle.dc_types.specs.Same as same
 
 -- two that differ by their constructor
@@ -136,6 +141,40 @@ tree-Decides = ind-CTree IsExactTree (λ x y is b.
     Decides-at (same.tree (roll-CTree x) b) (same.tree_at (tree_tests x) (out-CTree b)) rolled
     (Decides-like (same.tree_at (tree_tests x) (out-CTree b)) (λ e. ap roll-CTree e ∙ roll-out-CTree b) (λ e. sym (out-roll-CTree x) ∙ ap out-CTree e) layer))
 
+length-Decides : (a b : Length) → Decides (same.length_ a b) (a ≡ b)
+length-Decides (lengths.Number a) (lengths.Number b) = Decides-like (a == b) (λ e. ap lengths.Number e) (λ e. cc) (Decides-eqb a b)
+length-Decides (lengths.Number a) (lengths.LengthParam b) = apart _ _ (λ e. cc)
+length-Decides (lengths.LengthParam a) (lengths.Number b) = apart _ _ (λ e. cc)
+length-Decides (lengths.LengthParam a) (lengths.LengthParam b) = Decides-like (a == b) (λ e. ap lengths.LengthParam e) (λ e. cc) (Decides-eqb a b)
+
+abbrev IsExactPattern : Pattern → Type 0
+IsExactPattern a = (b : Pattern) → Decides (same.pattern a b) (a ≡ b)
+
+abbrev TestedPattern : Type 0
+TestedPattern = (a : Pattern) × IsExactPattern a
+
+abbrev bare_pattern : Pattern-F TestedPattern → Pattern-F Pattern
+bare_pattern x = map-Pattern TestedPattern Pattern (λ p. p.0) x
+
+abbrev pattern_tests : Pattern-F Pattern → Pattern-F (Pattern → Bool)
+pattern_tests x = map-Pattern Pattern (Pattern → Bool) same.pattern x
+
+pattern_layer-Decides : (x : Pattern-F TestedPattern) (y : Pattern-F Pattern) → Decides (same.pattern_at (pattern_tests (bare_pattern x)) y) (bare_pattern x ≡ y)
+pattern_layer-Decides (Pattern-F.Param a) (Pattern-F.Param b) = Decides-like (a == b) (λ e. ap Pattern-F.Param e) (λ e. cc) (Decides-eqb a b)
+pattern_layer-Decides (Pattern-F.SliceOf a) (Pattern-F.SliceOf b) = Decides-like (same.pattern a.0 b) (λ e. ap Pattern-F.SliceOf e) (λ e. cc) (a.1 b)
+pattern_layer-Decides (Pattern-F.FixedOf a m) (Pattern-F.FixedOf b n) =
+    Decides-like (same.length_ m n && same.pattern a.0 b) (λ h. let k = h.0 in let t = h.1 in cc) (λ e. (cc, cc)) (Decides-and (same.length_ m n) (same.pattern a.0 b) (length-Decides m n) (a.1 b))
+pattern_layer-Decides (Pattern-F.Just a) (Pattern-F.Just b) = Decides-like (same.ty a b) (λ e. ap Pattern-F.Just e) (λ e. cc) (ty-Decides a b)
+pattern_layer-Decides Pattern-F.Other Pattern-F.Other = (λ h. refl, λ e. refl)
+pattern_layer-Decides x y = (λ h. cc, λ e. cc)
+
+pub pattern-Decides : (a b : Pattern) → Decides (same.pattern a b) (a ≡ b)
+pattern-Decides = ind-Pattern IsExactPattern (λ x y is b.
+    let layer = subst (λ z. Decides (same.pattern_at (pattern_tests z) (out-Pattern b)) (z ≡ out-Pattern b)) is (pattern_layer-Decides y (out-Pattern b)) in
+    let rolled : same.pattern (roll-Pattern x) b ≡ same.pattern_at (pattern_tests x) (out-Pattern b) = ap (λ f. f b) (fold-roll-Pattern (Pattern → Bool) (λ f z. same.pattern_at f (out-Pattern z)) x) in
+    Decides-at (same.pattern (roll-Pattern x) b) (same.pattern_at (pattern_tests x) (out-Pattern b)) rolled
+    (Decides-like (same.pattern_at (pattern_tests x) (out-Pattern b)) (λ e. ap roll-Pattern e ∙ roll-out-Pattern b) (λ e. sym (out-roll-Pattern x) ∙ ap out-Pattern e) layer))
+
 -- a test that is exact is an equivalence
 pub equivalence : {K : Type 0} (test : K → K → Bool) → ((a b : K) → Decides (test a b) (a ≡ b)) → IsEquivalence test
 equivalence test exact = record {
@@ -149,3 +188,6 @@ ty_laws = equivalence same.ty ty-Decides
 
 pub tree_laws : IsEquivalence same.tree
 tree_laws = equivalence same.tree tree-Decides
+
+pub pattern_laws : IsEquivalence same.pattern
+pattern_laws = equivalence same.pattern pattern-Decides

@@ -1,5 +1,5 @@
 -- Which places, types and constants are the same. Each test answers true exactly for equal ones.
-use Rattle.std.specs.Prelude.{ℕ, Bool, List, true, false, ◌&&◌, ◌==◌}
+use Rattle.std.specs.Prelude.{Bool, List, true, false, ◌&&◌, ◌==◌}
 use Rattle.std.specs.Str.{bytes_eq}
 use Rattle.std.specs.Ordering.{int_eq}
 use Rattle.std.specs.Cmp.Lexicographic.{pointwise}
@@ -13,6 +13,12 @@ use Rattle.dc_types.specs.declared.ty.Ty.{Ty}
 use Rattle.dc_types.specs.declared.ty.Ty.TheViews.{out-Ty}
 use Rattle.dc_types.specs.declared.ty.Ty.TheOpen.{Ty-F}
 use Rattle.dc_types.specs.declared.ty.Ty.TheFolds.{fold-Ty}
+use Rattle.dc_types.specs.declared.pattern.Length.{Length}
+use Rattle.dc_types.specs.declared.pattern.Length.TheVariants as lengths
+use Rattle.dc_types.specs.declared.pattern.Pattern.{Pattern}
+use Rattle.dc_types.specs.declared.pattern.Pattern.TheViews.{out-Pattern}
+use Rattle.dc_types.specs.declared.pattern.Pattern.TheOpen.{Pattern-F}
+use Rattle.dc_types.specs.declared.pattern.Pattern.TheFolds.{fold-Pattern}
 use Rattle.dc_types.specs.declared.constant.CTree.{CTree}
 use Rattle.dc_types.specs.declared.constant.CTree.TheViews.{out-CTree}
 use Rattle.dc_types.specs.declared.constant.CTree.TheOpen.{CTree-F}
@@ -58,3 +64,19 @@ tree_at _ _ = false
 
 abbrev pub tree : CTree → CTree → Bool
 tree = fold-CTree (CTree → Bool) (λ a b. tree_at a (out-CTree b))
+
+abbrev pub length_ : Length → Length → Bool
+length_ (lengths.Number a) (lengths.Number b) = a == b
+length_ (lengths.LengthParam a) (lengths.LengthParam b) = a == b
+length_ _ _ = false
+
+abbrev pub pattern_at : Pattern-F (Pattern → Bool) → Pattern-F Pattern → Bool
+pattern_at (Pattern-F.Param a) (Pattern-F.Param b) = a == b
+pattern_at (Pattern-F.SliceOf a) (Pattern-F.SliceOf b) = a b
+pattern_at (Pattern-F.FixedOf a m) (Pattern-F.FixedOf b n) = length_ m n && a b
+pattern_at (Pattern-F.Just a) (Pattern-F.Just b) = ty a b
+pattern_at Pattern-F.Other Pattern-F.Other = true
+pattern_at _ _ = false
+
+abbrev pub pattern : Pattern → Pattern → Bool
+pattern = fold-Pattern (Pattern → Bool) (λ a b. pattern_at a (out-Pattern b))

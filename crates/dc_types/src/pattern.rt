@@ -1,6 +1,10 @@
 // Types with parameters of a template in them.
-use crate::{Items, Ty};
+ghost use Rattle.std.specs.Prelude.{◌≡◌, IfOk};
+ghost use Rattle.dc_types.specs.Same as same;
+
+use crate::{Items, Params, Ty, copy_ty, same_ty};
 use sqlite_items::Boxed;
+use std::alloc::{AllocError, Global};
 
 /// The length of a fixed array in a pattern.
 #[derive(Clone, Copy, Debug, PartialEq, Eq)]
@@ -23,3 +27,79 @@ pub enum Pattern {
 }
 
 pub type Patterns = Items<Pattern>;
+
+/// How an `is` expression compares a type with a pattern.
+#[derive(Clone, Copy, Debug, PartialEq, Eq)]
+pub enum IsBy {
+    /// `is(T)`: there is such a type.
+    Alone,
+    /// `is(T == U)`: they are the same.
+    Same,
+    /// `is(T : U)`: the type converts to the pattern.
+    Into,
+    /// `is(T == struct)`
+    AStruct,
+}
+
+/// An `is` expression (D specification, "Expressions", "Is Expression").
+#[derive(Debug, Drop)]
+pub struct IsForm {
+    pub left: Ty,
+    pub by: IsBy,
+    pub right: Pattern,
+    pub params: Params,
+}
+
+/// Whether the two are one pattern.
+pub fn same_pattern(a: &Pattern, b: &Pattern) -> bool
+    ensures { result ≡ same.pattern a.now b.now }
+{
+    match (a, b) {
+        (Pattern::Param(a), Pattern::Param(b)) => *a == *b,
+        (Pattern::SliceOf(a), Pattern::SliceOf(b)) => same_pattern(a.get(), b.get()),
+        (Pattern::FixedOf(a, m), Pattern::FixedOf(b, n)) => *m == *n
+            && same_pattern(a.get(), b.get()),
+        (Pattern::Just(a), Pattern::Just(b)) => same_ty(a, b),
+        (Pattern::Other, Pattern::Other) => true,
+        _ => false,
+    }
+}
+
+impl PartialEq for Pattern {
+    ghost use Rattle.dc_types.specs.Same as same;
+    ghost use Rattle.dc_types.specs.Exact.{pattern_laws};
+    ghost use Rattle.std.specs.Cmp.{partial_equiv_from_equiv};
+
+    ghost eq = { same.pattern };
+
+    ghost laws = { partial_equiv_from_equiv pattern_laws };
+
+    fn eq(&self, other: &Pattern) -> bool {
+        same_pattern(self, other)
+    }
+}
+
+impl Eq for Pattern {
+    ghost use Rattle.dc_types.specs.Exact.{pattern_laws};
+
+    ghost laws = { pattern_laws };
+}
+
+/// A copy that is equal.
+pub fn copy_pattern(alloc: Global, pattern: &Pattern) -> Result<Pattern, AllocError>
+    ensures { IfOk result (λ copy. copy ≡ pattern.now) }
+{
+    match pattern {
+        Pattern::Param(n) => Ok(Pattern::Param(*n)),
+        Pattern::SliceOf(of) => Ok(Pattern::SliceOf(Boxed::new(
+            alloc,
+            copy_pattern(alloc, of.get())?,
+        )?)),
+        Pattern::FixedOf(of, length) => Ok(Pattern::FixedOf(
+            Boxed::new(alloc, copy_pattern(alloc, of.get())?)?,
+            *length,
+        )),
+        Pattern::Just(ty) => Ok(Pattern::Just(copy_ty(alloc, ty)?)),
+        Pattern::Other => Ok(Pattern::Other),
+    }
+}

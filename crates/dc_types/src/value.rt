@@ -1,6 +1,10 @@
 // Values as they are while an evaluation goes on.
+ghost use Rattle.std.specs.Prelude.{◌≡◌, IfOk};
+ghost use Rattle.dc_types.specs.Same as same;
+
 use crate::Items;
 use sqlite_items::Items as Children;
+use std::alloc::{AllocError, Global};
 
 /// The elements of a slice: some of those of a block, or of a list in it.
 #[derive(Debug, Drop, PartialEq, Eq)]
@@ -27,4 +31,53 @@ pub type Values = Items<Value>;
 pub struct Spot {
     pub block: u32,
     pub path: Items<u64>,
+}
+
+fn copy_path(alloc: Global, path: &Items<u64>) -> Result<Items<u64>, AllocError>
+    ensures { IfOk result (λ copy. copy ≡ path.now) }
+{
+    let mut copy = Items::new(alloc);
+    for number in path.as_slice() {
+        copy.push(*number)?;
+    }
+    Ok(copy)
+}
+
+/// A copy that is equal.
+pub fn copy_span(alloc: Global, span: &Span) -> Result<Span, AllocError>
+    ensures { IfOk result (λ copy. copy ≡ span.now) }
+{
+    Ok(Span {
+        block: span.block,
+        path: copy_path(alloc, &span.path)?,
+        start: span.start,
+        length: span.length,
+    })
+}
+
+/// A copy that is equal.
+pub fn copy_spot(alloc: Global, spot: &Spot) -> Result<Spot, AllocError>
+    ensures { IfOk result (λ copy. copy ≡ spot.now) }
+{
+    Ok(Spot {
+        block: spot.block,
+        path: copy_path(alloc, &spot.path)?,
+    })
+}
+
+/// A copy that is equal.
+pub fn copy_value(alloc: Global, value: &Value) -> Result<Value, AllocError>
+    ensures { IfOk result (λ copy. copy ≡ value.now) }
+{
+    match value {
+        Value::Num(n) => Ok(Value::Num(*n)),
+        Value::SliceOf(span) => Ok(Value::SliceOf(copy_span(alloc, span)?)),
+        Value::List(parts) => {
+            let mut copy = Children::new(alloc);
+            for part in parts.as_slice() {
+                copy.push(copy_value(alloc, part)?)?;
+            }
+            Ok(Value::List(copy))
+        }
+    }
 }

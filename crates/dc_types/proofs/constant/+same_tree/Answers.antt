@@ -1,6 +1,4 @@
-use Rattle.std.proofs.Common.{◌≡◌, ◌∙◌, sym, true, false, arith}
-use Rattle.dc_types.specs.Same as same
-use Rattle.dc_types.specs.declared.constant.CTree.TheVariants as ctree
+use Rattle.std.proofs.Common.{◌∙◌, sym, arith}
 use Rattle.dc_types.proofs.Trees.{all_same, one_apart}
 use Rattle.dc_types.proofs.constant.+same_tree.Goals as goal
 
