@@ -17,15 +17,15 @@ use Rattle.dc_code.specs.declared.instr.Instr.{Instr}
 use Rattle.dc_code.specs.declared.instr.Function.{Function}
 use Rattle.dc_code.specs.declared.code.Draft.{Draft}
 
-abbrev at : ℕ → Place
+abbrev pub at : ℕ → Place
 at n = record { «module» = []; steps = At n ∷ [] }
 
 -- each instruction at the place of its number
-abbrev lines : ℕ → List Op → List Instr
+abbrev pub lines : ℕ → List Op → List Instr
 lines n [] = []
 lines n (o ∷ os) = record { place = at n; op = o } ∷ lines (suc n) os
 
-abbrev function : ℕ → ℕ → ℕ → Function
+abbrev pub function : ℕ → ℕ → ℕ → Function
 function first weight result = record { place = at 100; first = first; weight = weight; params = 0; result = result }
 
 abbrev one_function : ℕ → ℕ → List Op → Draft

@@ -8,16 +8,16 @@ use Rattle.dc_code.specs.Exec.{step, steps, begin}
 use Rattle.dc_code.specs.Laws.{RunsOnce}
 use Rattle.dc_code.specs.declared.code.Draft.{Draft}
 
-events_of : List Event → Run → List Event
+abbrev pub events_of : List Event → Run → List Event
 events_of d (On m) = d
 events_of d (Done end events taken) = events
 
-end_of_run : End → Run → End
+abbrev pub end_of_run : End → Run → End
 end_of_run d (On m) = d
 end_of_run d (Done end events taken) = end
 
 module _ (code : Draft) (limits : Limits) where
-  stays : (j : ℕ) (end : End) (events : List Event) (taken : ℕ) → steps code limits j (Done end events taken) ≡ Done end events taken
+  pub stays : (j : ℕ) (end : End) (events : List Event) (taken : ℕ) → steps code limits j (Done end events taken) ≡ Done end events taken
   stays zero end events taken = refl
   stays (suc j) end events taken = refl
 
@@ -32,7 +32,6 @@ module _ (code : Draft) (limits : Limits) where
       ⊎_elim (λ lt. sym (longer k j r d1 es1 t1 (omega arith) e) ∙ f) (λ le. sym e ∙ longer j k r d2 es2 t2 le f) (cases_lt k j)
 
 pub runs_once : RunsOnce
-unfolding events_of end_of_run
 runs_once code entry limits n xs ys d e a b =
     let s = same code limits a.count b.count (begin code entry n) d e xs ys a.taken b.taken a.ends b.ends in
     (ap (events_of []) s, ap (end_of_run d) s)

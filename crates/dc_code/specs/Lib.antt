@@ -8,4 +8,5 @@ pub mod Table
 pub mod Perform
 pub mod Exec
 pub mod Standing
+pub mod Ticks
 pub mod Laws

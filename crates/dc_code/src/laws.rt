@@ -3,12 +3,19 @@ ghost use Rattle.std.specs.Prelude.{ℕ, ◌<◌, length};
 ghost use Rattle.dc_types.specs.declared.event.Limits.{Limits as Bounds};
 ghost use Rattle.dc_code.specs.Sound.{IsSound};
 ghost use Rattle.dc_code.specs.Laws.{RunsOnce, EndsWell, KeepsStanding};
+ghost use Rattle.dc_code.specs.Ticks.{TicksBound};
 
 use crate::Code;
 
 /// A run has one list of events and one end.
 pub fn runs_once()
     ensures { RunsOnce }
+{}
+
+/// A run in at most n ticks takes n at most, and all of them where it ends for want of one more. With more ticks its
+/// events begin with the same ones, and it ends as before unless it ended for want of a tick.
+pub fn ticks_bound()
+    ensures { TicksBound }
 {}
 
 /// What is true of all code.

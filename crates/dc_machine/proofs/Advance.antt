@@ -1,5 +1,5 @@
 -- What one instruction leads to, with what it shows put into the sink.
-use Rattle.std.proofs.Common.{◌≡◌, ℕ, ◌+◌, ◌<◌, List, [], ◌∷◌, ◌++◌, Option, Some, None, refl, sym, ap, ap₂, ◌∙◌, subst, arith, append-nil, add-zero}
+use Rattle.std.proofs.Common.{◌≡◌, ℕ, ◌+◌, ◌<◌, List, [], ◌∷◌, ◌++◌, length, Option, Some, None, refl, sym, ap, ap₂, ◌∙◌, subst, arith, append-nil, add-zero}
 use Rattle.std.specs.Prelude.{slice_get, Result, Ok, Err, IfOk, OnErr}
 use Rattle.std.specs.Io.KnownBytes.{Appends}
 use Rattle.dc_edge.specs.Sink.{AppendsFront}
@@ -130,13 +130,14 @@ module _ (code : Draft) (limits : Limits) (m x : State) (s : Stepped code limits
       same : (taken : ℕ) (events : List Event) → machine_of code m' (taken + 1) events ≡ record (machine_of code x (taken + 1) events) { pending = [] }
       same taken events = cc
 
-  pub breaks : (old new : Option (List ℕ)) → AppendsFront old new x.pending.items → Breaks code limits m old new
-  breaks old new put = record {
-    more = Print x.pending.items ∷ [];
+  pub breaks : (old new : Option (List ℕ)) → 0 < length x.pending.items → AppendsFront old new x.pending.items → Breaks code limits m old new
+  breaks old new some put = record {
+    text = x.pending.items;
+    some = some;
     next = λ taken events. record (machine_of code x (taken + 1) (events ++ Print x.pending.items ∷ [])) { pending = [] };
     step_is = s.step_is;
     events_are = λ taken events. refl;
-    put = subst (AppendsFront old new) (sym bytes_of) put;
+    put = put;
   }
 
   pub wants : IsTaking code limits m

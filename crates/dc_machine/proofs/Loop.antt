@@ -4,6 +4,7 @@ use Rattle.std.specs.Prelude.{Err}
 use Rattle.std.specs.Io.KnownBytes.{Appends, Keeps}
 use Rattle.dc_edge.specs.Sink.{AppendsFront}
 use Rattle.dc_types.specs.declared.event.Event.{Event}
+use Rattle.dc_types.specs.declared.event.Event.TheVariants.{Print}
 use Rattle.dc_types.specs.declared.event.Limits.{Limits}
 use Rattle.dc_code.specs.State.{Machine, Run, On, Done}
 use Rattle.dc_code.specs.Exec.{steps, taken_by}
@@ -16,7 +17,8 @@ use Rattle.dc_machine.specs.declared.state.Fault.{Fault}
 use Rattle.dc_machine.specs.declared.state.Fault.TheVariants.{NoMemory, Failed}
 use Rattle.dc_machine.specs.After.{KeepsRoom, machine_of}
 use Rattle.dc_types.specs.Events.{bytes_of, printed}
-use Rattle.dc_machine.specs.Running.{Ready, Begins, IsTaking, GoesOn, Halts, Breaks, Advances, Ended, Broken, ComesToTake, Runs, Comes}
+use Rattle.dc_machine.specs.Runs.{TakesFrontAfter}
+use Rattle.dc_machine.specs.Running.{Ready, Begins, IsTaking, GoesOn, Halts, Breaks, Advances, Ended, Broken, BrokenAtPut, ComesToTake, Runs, Comes}
 use Rattle.dc_machine.proofs.Advance.{same_appends}
 
 printed-append : (xs ys : List Event) → printed (xs ++ ys) ≡ printed xs ++ printed ys
@@ -41,11 +43,11 @@ module _ (old mid new : Option (List ℕ)) (events : List Event) (put : Appends 
   all_put : (more : List Event) → Appends mid new (printed more) → Appends old new (printed (events ++ more))
   all_put more q = subst (Appends old new) (sym (printed-append events more)) (appends_more old mid new (printed events) (printed more) put q)
 
-  front_put : (more rest : List Event) → AppendsFront mid new (printed more) → AppendsFront old new (printed ((events ++ more) ++ rest))
-  front_put more rest q = record {
-    front = printed events ++ q.front;
-    back = q.back ++ printed rest;
-    split = printed-append (events ++ more) rest ∙ ap (λ l. l ++ printed rest) (printed-append events more ∙ ap (λ l. printed events ++ l) q.split ∙ sym (append_assoc (printed events) q.front q.back)) ∙ append_assoc (printed events ++ q.front) q.back (printed rest);
+  front_put : (text : List ℕ) → AppendsFront mid new text → TakesFrontAfter old new (printed events) text
+  front_put text q = record {
+    front = q.front;
+    back = q.back;
+    split = q.split;
     appended = appends_more old mid new (printed events) q.front put q.appended;
   }
 
@@ -96,7 +98,7 @@ module _ (code : Draft) (limits : Limits) (from : Run) (m : State) (old mid : Op
         put = all_put old mid new r.events c.put h.more h.put;
       }
 
-  pub breaks : (new : Option (List ℕ)) → Breaks code limits m mid new → Broken code limits from old new
+  pub breaks : (new : Option (List ℕ)) → Breaks code limits m mid new → BrokenAtPut code limits from old new
   breaks new b =
       let x : Machine = b.next r.taken r.events in
       let e = b.step_is r.taken r.events in
@@ -104,11 +106,14 @@ module _ (code : Draft) (limits : Limits) (from : Run) (m : State) (old mid : Op
       let k = c.leads (suc end.count) in
       record {
         count = k.0;
-        events = (r.events ++ b.more) ++ end.more;
+        before = r.events;
+        text = b.text;
+        behind = end.more;
         end = end.end;
         taken = end.taken;
-        steps_are = k.1 ∙ ap (steps code limits end.count) e ∙ end.ends ∙ ap (λ es. Done end.end (es ++ end.more) end.taken) (b.events_are r.taken r.events);
-        put = front_put old mid new r.events c.put b.more end.more b.put;
+        steps_are = k.1 ∙ ap (steps code limits end.count) e ∙ end.ends ∙ ap (λ es. Done end.end es end.taken) (ap (λ es. es ++ end.more) (b.events_are r.taken r.events) ∙ append_assoc r.events (Print b.text ∷ []) end.more);
+        some = b.some;
+        put = front_put old mid new r.events c.put b.text b.put;
       }
 
   pub wants : (new : Option (List ℕ)) → IsTaking code limits m → Keeps mid new → Broken code limits from old new × ComesToTake code limits from

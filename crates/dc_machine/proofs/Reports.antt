@@ -10,8 +10,8 @@ use Rattle.dc_machine.specs.declared.state.State.{State}
 use Rattle.dc_machine.specs.declared.state.Halt.{Halt}
 use Rattle.dc_machine.specs.declared.report.RunEnd.{RunEnd}
 use Rattle.dc_machine.specs.declared.report.RunEnd.TheVariants as run
-use Rattle.dc_machine.specs.Running.{end_at, Ended, Broken, ComesToTake}
-use Rattle.dc_machine.specs.Runs.{EndsSo, BreaksOff, RanTo, Shows}
+use Rattle.dc_machine.specs.Running.{end_at, Ended, Broken, BrokenAtPut, ComesToTake}
+use Rattle.dc_machine.specs.Runs.{EndsSo, BreaksOff, BreaksAtPut, RanTo, Shows}
 
 module _ (code : Draft) (entry : ℕ) (limits : Limits) (old new : Option (List ℕ)) where
   shown : (x : End) (end : RunEnd) → Shows x end → EndsSo code entry limits old new x → RanTo code entry limits old new end
@@ -33,6 +33,17 @@ module _ (code : Draft) (entry : ℕ) (limits : Limits) (old new : Option (List 
       events = b.events;
       end = b.end;
       exec = record { count = b.count; taken = b.taken; ends = ap (steps code limits b.count) (sym is) ∙ b.steps_are };
+      put = b.put;
+    }
+
+    pub broken_at_put : BrokenAtPut code limits from old new → BreaksAtPut code entry limits old new
+    broken_at_put b = record {
+      before = b.before;
+      text = b.text;
+      behind = b.behind;
+      end = b.end;
+      exec = record { count = b.count; taken = b.taken; ends = ap (steps code limits b.count) (sym is) ∙ b.steps_are };
+      some = b.some;
       put = b.put;
     }
 

@@ -1,8 +1,9 @@
 -- A run in its middle.
-use Rattle.std.specs.Prelude.{◌≡◌, ℕ, ◌+◌, ◌<◌, ◌≤◌, List, [], ◌++◌, Option, Some, None, Result, Ok, Err, vec_capacity, slice_get}
+use Rattle.std.specs.Prelude.{◌≡◌, ℕ, ◌+◌, ◌<◌, ◌≤◌, List, [], ◌∷◌, ◌++◌, length, Option, Some, None, Result, Ok, Err, vec_capacity, slice_get}
 use Rattle.std.specs.Io.KnownBytes.{Appends, Keeps}
 use Rattle.dc_edge.specs.Sink.{AppendsFront}
 use Rattle.dc_types.specs.declared.event.Event.{Event}
+use Rattle.dc_types.specs.declared.event.Event.TheVariants.{Print}
 use Rattle.dc_types.specs.declared.event.Limits.{Limits}
 use Rattle.dc_code.specs.State.{Machine, End, Run, On, Done}
 use Rattle.dc_code.specs.Exec.{step, steps, taken_by}
@@ -16,6 +17,7 @@ use Rattle.dc_machine.specs.declared.state.Stop.{Stop}
 use Rattle.dc_machine.specs.declared.state.Fault.{Fault}
 use Rattle.dc_machine.specs.declared.state.Fault.TheVariants.{NoMemory, Failed}
 use Rattle.dc_machine.specs.After.{machine_of, stopped, after}
+use Rattle.dc_machine.specs.Runs.{TakesFrontAfter}
 use Rattle.dc_types.specs.Events.{printed}
 
 -- The machine stands between two instructions, with room for all frames that the limits allow.
@@ -65,13 +67,14 @@ pub record Halts (code : Draft) (limits : Limits) (halt : Halt) (m m' : State) (
   pub step_is : (taken : ℕ) (events : List Event) → step code limits (machine_of code m taken events) ≡ Done (end_at code instr halt.stop m') (events ++ more) taken
   pub put : Appends old new (printed more)
 
--- A put failed: of what these events more print, the sink took a front.
+-- A put failed: a text that isn't empty is printed, and the sink took a front of it.
 pub record Breaks (code : Draft) (limits : Limits) (m : State) (old new : Option (List ℕ)) : Type 0 where
-  pub more : List Event
+  pub text : List ℕ
+  pub some : 0 < length text
   pub next : ℕ → List Event → Machine
   pub step_is : (taken : ℕ) (events : List Event) → step code limits (machine_of code m taken events) ≡ On (next taken events)
-  pub events_are : (taken : ℕ) (events : List Event) → (next taken events).events ≡ events ++ more
-  pub put : AppendsFront old new (printed more)
+  pub events_are : (taken : ℕ) (events : List Event) → (next taken events).events ≡ events ++ Print text ∷ []
+  pub put : AppendsFront old new text
 
 abbrev pub Advances : Draft → Limits → State → State → Option (List ℕ) → Option (List ℕ) → Result (Option Halt) Fault → Type 0
 Advances code limits m m' old new (Ok None) = GoesOn code limits m m' old new
@@ -100,6 +103,18 @@ pub record Broken (code : Draft) (limits : Limits) (from : Run) (old new : Optio
   pub steps_are : steps code limits count from ≡ Done end events taken
   pub put : AppendsFront old new (printed events)
 
+-- It prints a text that isn't empty. The sink took what was printed before, and a front of it.
+pub record BrokenAtPut (code : Draft) (limits : Limits) (from : Run) (old new : Option (List ℕ)) : Type 0 where
+  pub count : ℕ
+  pub before : List Event
+  pub text : List ℕ
+  pub behind : List Event
+  pub end : End
+  pub taken : ℕ
+  pub steps_are : steps code limits count from ≡ Done end (before ++ Print text ∷ behind) taken
+  pub some : 0 < length text
+  pub put : TakesFrontAfter old new (printed before) text
+
 -- It comes to an instruction that takes memory.
 pub record ComesToTake (code : Draft) (limits : Limits) (from : Run) : Type 0 where
   pub count : ℕ
@@ -108,7 +123,7 @@ pub record ComesToTake (code : Draft) (limits : Limits) (from : Run) : Type 0 wh
 abbrev pub Runs : Draft → Limits → Run → State → Option (List ℕ) → Option (List ℕ) → Result Halt Fault → Type 0
 Runs code limits from m' old new (Ok halt) = Ended code limits halt from m' old new
 Runs code limits from m' old new (Err NoMemory) = Broken code limits from old new × ComesToTake code limits from
-Runs code limits from m' old new (Err Failed) = Broken code limits from old new
+Runs code limits from m' old new (Err Failed) = BrokenAtPut code limits from old new
 
 -- After some instructions the run has come to the machine's state.
 pub record Comes (code : Draft) (limits : Limits) (from : Run) (m : State) (old new : Option (List ℕ)) : Type 0 where

@@ -38,6 +38,7 @@ fn step(
 /// The pending text goes to the sink. An empty text is no put.
 fn print<S: Sink>(pending: &mut Vec<u8>, out: &mut S) -> Result<(), SinkFault>
     ensures empty { OnOk result (pending.new.items ≡ []) }
+    ensures some { OnErr result (0 < length pending.old.items) }
     ensures content { Takes (S.taken out.old) (S.taken out.new) pending.old.items result }
     ensures cause { CountsFaults (S.faults out.old) (S.faults out.new) (IsErrOf result SinkFault.Failed) }
 {

@@ -2,7 +2,7 @@
 use crate::{Machine, RunEnd, is_simple_code};
 use dc_code::{Code, Draft, Function, Instr, Op};
 use dc_edge::{MemSink, Probe};
-use dc_types::{BinOp, CmpOp, Items, Kind, Limits, Place, Step, Text, Trap, TrapKind};
+use dc_types::{BinOp, CmpOp, Items, Kind, Limits, Place, Step, Text, Trap, TrapKind, UnOp};
 use std::alloc::{AllocError, Global};
 use std::test::Fail;
 
@@ -29,8 +29,13 @@ fn functions(alloc: Global, shapes: &[[u32; 4]]) -> Result<Items<Function>, Allo
     Ok(all)
 }
 
-/// Code whose first function is the entry. Each instruction stands at the offset of its number.
-fn code(alloc: Global, shapes: &[[u32; 4]], ops: &[Op]) -> Result<Option<Code>, AllocError> {
+/// Code with these entries. Each instruction stands at the offset of its number.
+fn code(
+    alloc: Global,
+    shapes: &[[u32; 4]],
+    ops: &[Op],
+    entries: &[u32],
+) -> Result<Option<Code>, AllocError> {
     let mut instrs = Items::new(alloc);
     let mut at = 0;
     for op in ops {
@@ -47,14 +52,20 @@ fn code(alloc: Global, shapes: &[[u32; 4]], ops: &[Op]) -> Result<Option<Code>, 
         instrs,
         blocks,
         globals: Items::new(alloc),
-        entries: Items::from_vec(Vec::from_slice(alloc, &[0])?),
+        entries: Items::from_vec(Vec::from_slice(alloc, entries)?),
     };
     Ok(draft.finish().ok())
 }
 
-/// How a run of the code ended, as its place's offset where it trapped, and what the sink took.
-fn run(alloc: Global, code: &Code, limits: Limits, failing: u64) -> Result<(RunEnd, Text), Fail> {
-    if !is_simple_code(code) || code.entries().is_empty() {
+/// How a run of the entry ended, and what the sink took.
+fn run_entry(
+    alloc: Global,
+    code: &Code,
+    entry: usize,
+    limits: Limits,
+    failing: u64,
+) -> Result<(RunEnd, Text), Fail> {
+    if !is_simple_code(code) || code.entries().len() <= entry {
         return Err("code that the machine doesn't run".into());
     }
     let mut machine = Machine::open(alloc, code, limits)?;
@@ -65,8 +76,13 @@ fn run(alloc: Global, code: &Code, limits: Limits, failing: u64) -> Result<(RunE
         faults: 0,
     };
     let mut probes: Vec<Box<dyn Probe>> = Vec::new(alloc);
-    let report = machine.run(alloc, 0, &mut out, &mut probes);
+    let report = machine.run(alloc, entry, &mut out, &mut probes);
     Ok((report.end, out.bytes))
+}
+
+/// The same of the first entry.
+fn run(alloc: Global, code: &Code, limits: Limits, failing: u64) -> Result<(RunEnd, Text), Fail> {
+    run_entry(alloc, code, 0, limits, failing)
 }
 
 fn limits(ticks: u64) -> Limits {
@@ -93,7 +109,7 @@ fn trap(
     ops: &[Op],
     limits: Limits,
 ) -> Result<(TrapKind, u32), Fail> {
-    let code = code(alloc, shapes, ops)?.ok_or("unsound")?;
+    let code = code(alloc, shapes, ops, &[0])?.ok_or("unsound")?;
     let (end, _) = run(alloc, &code, limits, 0)?;
     match end {
         RunEnd::Trapped(trap) => offset_of(&trap),
@@ -121,7 +137,8 @@ const SUM: [Op; 13] = [
 #[test]
 fn a_loop_at_each_bound(rt: HostRuntime) -> Result<(), Fail> {
     let alloc = rt.alloc();
-    let code = code(alloc, &[[0, 2, 0, 1], [5, 5, 1, 1]], &SUM)?.ok_or("unsound")?;
+    let shapes = [[0, 2, 0, 1], [5, 5, 1, 1]];
+    let code = code(alloc, &shapes, &SUM, &[0])?.ok_or("unsound")?;
     for ticks in 0..9 {
         let (end, text) = run(alloc, &code, limits(ticks), 0)?;
         if ticks < 5 {
@@ -201,7 +218,7 @@ fn a_failing_put_ends_the_run(rt: HostRuntime) -> Result<(), Fail> {
         Op::Flush,
         Op::Return(0, 0),
     ];
-    let code = code(alloc, &[[0, 2, 0, 0]], &ops)?.ok_or("unsound")?;
+    let code = code(alloc, &[[0, 2, 0, 0]], &ops, &[0])?.ok_or("unsound")?;
     let rows: [(u64, &[u8]); 2] = [(1, b""), (2, b"hi")];
     for (failing, taken) in rows {
         let (end, text) = run(alloc, &code, limits(0), failing)?;
@@ -212,5 +229,73 @@ fn a_failing_put_ends_the_run(rt: HostRuntime) -> Result<(), Fail> {
     let (end, text) = run(alloc, &code, limits(0), 3)?;
     assert!(rt; matches!(end, RunEnd::Value(0)));
     assert_eq!(rt; text.as_slice(), b"hifalse0".as_slice());
+    Ok(())
+}
+
+/// What three instructions leave in slot 0, behind 200 in slot 1 and 3 in slot 2.
+const VALUES: [([Op; 3], i64); 13] = [
+    ([Op::Copy(2, 1, 2), Op::Copy(0, 3, 1), Op::Turn], 3),
+    (
+        [
+            Op::Copy(0, 1, 3),
+            Op::Binary(BinOp::Sub, Kind::I64, 0, 1, 0),
+            Op::Turn,
+        ],
+        -197,
+    ),
+    (
+        [Op::Unary(UnOp::Negate, Kind::I8, 0, 1), Op::Turn, Op::Turn],
+        56,
+    ),
+    (
+        [Op::Unary(UnOp::Flip, Kind::U8, 0, 2), Op::Turn, Op::Turn],
+        252,
+    ),
+    (
+        [Op::Unary(UnOp::Not, Kind::Bool, 0, 1), Op::Turn, Op::Turn],
+        0,
+    ),
+    (
+        [Op::Unary(UnOp::Not, Kind::I32, 0, 3), Op::Turn, Op::Turn],
+        1,
+    ),
+    ([Op::Cast(Kind::I8, 0, 1), Op::Turn, Op::Turn], -56),
+    ([Op::Cast(Kind::Bool, 0, 1), Op::Turn, Op::Turn], 1),
+    (
+        [
+            Op::Compare(CmpOp::Less, Kind::I8, 0, 1, 2),
+            Op::Turn,
+            Op::Turn,
+        ],
+        1,
+    ),
+    ([Op::JumpZero(3, 5), Op::Copy(0, 1, 1), Op::Turn], 0),
+    ([Op::JumpZero(1, 5), Op::Copy(0, 1, 1), Op::Turn], 200),
+    ([Op::JumpOther(1, 5), Op::Copy(0, 1, 1), Op::Turn], 0),
+    ([Op::JumpOther(3, 5), Op::Copy(0, 1, 1), Op::Turn], 200),
+];
+
+#[test]
+fn instructions_of_the_second_entry(rt: HostRuntime) -> Result<(), Fail> {
+    let alloc = rt.alloc();
+    for ([first, second, third], want) in VALUES {
+        let ops = [
+            Op::Return(0, 1),
+            Op::Const(1, 200),
+            Op::Const(2, 3),
+            first,
+            second,
+            third,
+            Op::Return(0, 1),
+        ];
+        let code = code(alloc, &[[0, 1, 0, 1], [1, 4, 0, 1]], &ops, &[0, 1])?.ok_or("unsound")?;
+        let (end, _) = run_entry(alloc, &code, 1, limits(9), 0)?;
+        assert!(rt;
+            matches!(end, RunEnd::Value(v) if v == want),
+            "{first:?} {end:?}"
+        );
+        let (end, _) = run(alloc, &code, limits(0), 0)?;
+        assert!(rt; matches!(end, RunEnd::Value(0)), "the first entry");
+    }
     Ok(())
 }

@@ -1,13 +1,13 @@
 -- What the operators of 128 bits give, reduced, is what the definition says.
-use Rattle.std.proofs.Common.{◌≡◌, ℕ, zero, suc, ◌-◌, ◌*◌, ◌/◌, ◌%◌, ◌^◌, ◌<◌, ◌≤◌, Bool, true, false, cond, Option, Some, None, Result, Ok, Err, ℤ, pos, negsuc, neg_ℤ, ◌+ℤ◌, ◌-ℤ◌, ◌*ℤ◌, ◌≤ℤ◌, ◌<ℤ◌, unsigned_abs, refl, sym, ap, ◌∙◌, arith, subst, true≢false, lit≤, lit<}
-use Rattle.std.specs.Int.{cast_unsigned, cast_signed, int_div_euclid, w128}
+use Rattle.std.proofs.Common.{◌≡◌, ℕ, zero, suc, ◌-◌, ◌*◌, ◌/◌, ◌%◌, ◌^◌, ◌<◌, ◌≤◌, Bool, true, false, cond, Option, Some, None, Result, Ok, Err, ℤ, pos, negsuc, neg_ℤ, ◌+ℤ◌, ◌-ℤ◌, ◌*ℤ◌, ◌≤ℤ◌, ◌<ℤ◌, unsigned_abs, refl, sym, ap, ◌∙◌, arith, subst, true≢false, lit≤, lit<, ◌⊎◌, inl, inr, ⊎_elim}
+use Rattle.std.specs.Int.{cast_unsigned, cast_signed, int_div_euclid, int_wrap, int_wrapping_neg, w128}
 use Rattle.std.specs.Int.RustNames.{FitsSigned, int_div, int_rem}
-use Rattle.std.proofs.lemmas.Int.{ints, to_z-of_z, to_z_pos, wrapping_mul_is, int_wrap_fits, fits_signed_from_abs, fits_signed_mul, rem_is}
+use Rattle.std.proofs.lemmas.Int.{ints, to_z-of_z, to_z_pos, wrapping_mul_is, wrapping_neg_is, SFits-int_wrap, int_wrap_fits, fits_signed_from_abs, fits_signed_mul, rem_is}
+use Rattle.std.proofs.lemmas.Bool.{cases_lt}
 use Rattle.std.proofs.Math.Nat.{div-le_self}
 use Rattle.std.proofs.Math.Pow.{pow_mono}
 use Rattle.std.proofs.Math.Facts.{to_z-neg}
 use borrow.Author.Differences.{fits_in}
-use Rattle.std.proofs.Math.IntN.{+ℤ_idl}
 use lib.Signed.{shr_z, mag_shr}
 use Rattle.dc_types.specs.declared.kind.Kind.{Kind}
 use Rattle.dc_types.specs.declared.kind.Kind.TheVariants as kind
@@ -17,8 +17,8 @@ use Rattle.dc_types.specs.declared.kind.UnOp.TheVariants as unop
 use Rattle.dc_types.specs.declared.kind.UnOp.{UnOp}
 use Rattle.dc_types.specs.declared.event.TrapKind.{TrapKind}
 use Rattle.dc_types.specs.declared.event.TrapKind.TheVariants as trap
-use Rattle.dc_types.specs.Integers.{bits_of, InKind, wrap, can_divide, can_shift, binary, unary, pattern}
-use Rattle.dc_types.proofs.Integers.{InKind-wrap, in_kind_wide, wrap-int_wrap, wrap-flip, by_digit, residue_below, bits_of_at_most}
+use Rattle.dc_types.specs.Integers.{bits_of, InKind, residue, truth, wrap, can_divide, can_shift, binary, unary, pattern}
+use Rattle.dc_types.proofs.Integers.{InKind-wrap, in_kind_wide, wrap-int_wrap, by_bool, by_digit, residue_below, residue_left, residue_same, residue_small, bits_of_at_most}
 
 -- a number as it goes through 128 bits
 abbrev pub through : ℤ → ℤ
@@ -187,8 +187,29 @@ module _ (k : Kind) (a count : ℤ) (f : FitsSigned w128 a) (g : FitsSigned w128
 
 -- ---- one operand
 
-negated_fits : (k : Kind) (a : ℤ) → InKind k a → FitsSigned w128 (neg_ℤ a)
-negated_fits k a h = let l = in_kind_wide k a h in let low = l.0 in let high = l.1 in omega (arith, fits_in, ints)
+-- each number of 128 bits has a negative there, but the least one
+fits_or_least : (a : ℤ) → FitsSigned w128 a → FitsSigned w128 (neg_ℤ a) ⊎ (a ≡ negsuc (2 ^ 127 - 1))
+fits_or_least (pos n) f = inl (let s = f.sfits in omega (arith, fits_in, ints))
+fits_or_least (negsuc n) f = ⊎_elim (λ lt. inl (omega (arith, fits_in, ints))) (λ le. inr (let s = f.sfits in let is : n ≡ 2 ^ 127 - 1 = omega (arith, s, le) in ap negsuc is)) (cases_lt n (2 ^ 127 - 1))
+
+least_negative : wrap kind.Bool (int_wrap w128 (neg_ℤ (negsuc (2 ^ 127 - 1)))) ≡ wrap kind.Bool (neg_ℤ (negsuc (2 ^ 127 - 1)))
+unfolding wrap truth int_wrap
+least_negative = refl
+
+negative : (k : Kind) (a : ℤ) → FitsSigned w128 a → wrap k (int_wrap w128 (neg_ℤ a)) ≡ wrap k (neg_ℤ a)
+negative k a f = by_bool k
+    (λ e. ⊎_elim
+    (λ fits. wrap-int_wrap k (neg_ℤ a) (λ e. fits))
+    (λ is. subst (λ k. wrap k (int_wrap w128 (neg_ℤ a)) ≡ wrap k (neg_ℤ a)) (sym e) (subst (λ a. wrap kind.Bool (int_wrap w128 (neg_ℤ a)) ≡ wrap kind.Bool (neg_ℤ a)) (sym is) least_negative))
+    (fits_or_least a f))
+    (λ ne. wrap-int_wrap k (neg_ℤ a) (λ e. absurd (ne e)))
+
+pub negated_is : (o : UnOp) (k : Kind) (a : ℤ) → FitsSigned w128 a → o ≡ unop.Negate → (n r : ℤ) → n ≡ int_wrapping_neg w128 (through a) → r ≡ wrap k (through n) → through r ≡ unary o k a
+unfolding unary
+negated_is o k a f e n r d q =
+    let is : n ≡ int_wrap w128 (neg_ℤ a) = d ∙ ap (int_wrapping_neg w128) (to_z-of_z w128 a f) ∙ wrapping_neg_is w128 a f in
+    wrapped k (neg_ℤ a) (through n) r q (ap (λ n. wrap k (through n)) is ∙ ap (wrap k) (to_z-of_z w128 (int_wrap w128 (neg_ℤ a)) (SFits-int_wrap w128 (neg_ℤ a))) ∙ negative k a f)
+    ∙ sym (ap (λ o. unary o k a) e)
 
 flipped : (a : ℤ) → FitsSigned w128 a → cast_signed w128 (2 ^ 128 - 1 - cast_unsigned w128 a) ≡ neg_ℤ a -ℤ pos 1
 flipped (pos n) f =
@@ -196,18 +217,22 @@ flipped (pos n) f =
     ap (cast_signed w128) low ∙ to_z-neg w128 n f.sfits ∙ omega (arith, ints)
 flipped (negsuc n) f = let s = f.sfits in omega (arith, ints)
 
-pub negated_goal : (k : Kind) (a : ℤ) → FitsSigned w128 a → InKind k a → FitsSigned w128 (pos 0 -ℤ through a)
-negated_goal k a f h = let l = in_kind_wide k a h in let low = l.0 in let high = l.1 in subst (λ x. FitsSigned w128 (pos 0 -ℤ x)) (sym (to_z-of_z w128 a f)) (omega (arith, fits_in, ints))
+-- the two's complement of -a - 1 has each bit of that of a turned
+turned : (bits : ℕ) (a : ℤ) → residue bits (neg_ℤ a -ℤ pos 1) ≡ 2 ^ bits - 1 - residue bits a
+turned bits a =
+    let l = residue_left bits a in
+    let below = residue_below bits a in
+    sym (residue_same bits (pos (2 ^ bits - 1 - residue bits a)) (neg_ℤ a -ℤ pos 1) l.1 (suc l.0) (omega (arith, ints, l.2)))
+    ∙ residue_small bits (2 ^ bits - 1 - residue bits a) (omega arith)
 
-pub negated_is : (o : UnOp) (k : Kind) (a : ℤ) → FitsSigned w128 a → InKind k a → o ≡ unop.Negate → (r : ℤ) → r ≡ wrap k (through (pos 0 -ℤ through a)) → through r ≡ unary o k a
+pub flip_is : (o : UnOp) (k : Kind) (a : ℤ) → FitsSigned w128 a → o ≡ unop.Flip → (p : ℕ) → p ≡ pattern k (cast_signed w128 (2 ^ 128 - 1 - cast_unsigned w128 a)) → (z : ℤ) → z ≡ pos p → (r : ℤ) → r ≡ wrap k (through z) → through r ≡ unary o k a
 unfolding unary
-negated_is o k a f h e r d =
-    wrapped k (neg_ℤ a) _ r d (ap (wrap k) (ap (λ x. through (pos 0 -ℤ x)) (to_z-of_z w128 a f) ∙ ap through (+ℤ_idl (neg_ℤ a)) ∙ to_z-of_z w128 (neg_ℤ a) (negated_fits k a h)))
-    ∙ sym (ap (λ o. unary o k a) e)
-
-pub flip_is : (o : UnOp) (k : Kind) (a : ℤ) → FitsSigned w128 a → InKind k a → o ≡ unop.Flip → (r : ℤ) → r ≡ wrap k (cast_signed w128 (2 ^ 128 - 1 - cast_unsigned w128 a)) → through r ≡ unary o k a
-unfolding unary
-flip_is o k a f h d r e = wrapped k (pos (2 ^ bits_of k - 1 - pattern k a)) _ r e (ap (wrap k) (flipped a f) ∙ sym (wrap-flip k a h)) ∙ sym (ap (λ o. unary o k a) d)
+flip_is o k a f d p q z y r e =
+    let n = 2 ^ bits_of k - 1 - pattern k a in
+    let is : z ≡ pos n = y ∙ ap pos (q ∙ ap (pattern k) (flipped a f) ∙ turned (bits_of k) a) in
+    let most : 2 ^ bits_of k ≤ 2 ^ 64 = pow_mono (bits_of_at_most k) in
+    let size : n < 2 ^ 127 = omega (arith, most) in
+    wrapped k (pos n) (through z) r e (ap (wrap k) (ap through is ∙ to_z_pos w128 n size)) ∙ sym (ap (λ o. unary o k a) d)
 
 -- ---- by the operator
 pub of_op : (o p : BinOp) (k : Kind) (a b : ℤ) (r : Result ℤ TrapKind) → o ≡ p → r ≡ binary p k a b → r ≡ binary o k a b

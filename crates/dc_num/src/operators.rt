@@ -131,16 +131,17 @@ pub fn binary(op: BinOp, k: Kind, a: i128, b: i128) -> Result<i128, TrapKind>
     }
 }
 
-/// What `op a` is in a kind, for a number of it (D specification, "Expressions", "Unary Expressions"). `!` gives 1
-/// for 0, and else 0.
+/// What `op a` is in a kind (D specification, "Expressions", "Unary Expressions"): `-` and `~` are done on the whole
+/// number and its two's complement in the kind's bits, and what comes out is reduced to the kind. `!` gives 1 for 0, and
+/// else 0. The number may be any. It takes no memory.
 #[tactic(auto, unfolding(dc_types::specs::Integers::unary))]
 pub fn unary(op: UnOp, k: Kind, a: i128) -> i128
-    requires { InKind k a }
     ensures { result ≡ unary op k a }
 {
     match op {
-        UnOp::Negate => wrap(k, -a),
-        UnOp::Flip => wrap(k, !a),
+        // Of 128 bits the least number has no negative: what is lost lies above the bits of every kind.
+        UnOp::Negate => wrap(k, a.wrapping_neg()),
+        UnOp::Flip => wrap(k, i128::from(pattern(k, !a))),
         UnOp::Not => { if a == 0 { 1 } else { 0 } }
     }
 }

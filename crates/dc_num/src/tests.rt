@@ -375,7 +375,22 @@ static BINARY: [(BinOp, Kind, i128, i128, Result<i128, TrapKind>); 190] = [
     (BinOp::Ushr, Kind::Char, 128, 7, Ok(1)),
 ];
 
-static UNARY: [(UnOp, Kind, i128, i128); 34] = [
+static UNARY: [(UnOp, Kind, i128, i128); 39] = [
+    (
+        UnOp::Negate,
+        Kind::Bool,
+        -170141183460469231731687303715884105728,
+        1,
+    ),
+    (
+        UnOp::Negate,
+        Kind::I32,
+        -170141183460469231731687303715884105728,
+        0,
+    ),
+    (UnOp::Flip, Kind::Bool, 255, 0),
+    (UnOp::Flip, Kind::Bool, -1, 0),
+    (UnOp::Flip, Kind::U8, 256, 255),
     (UnOp::Negate, Kind::Bool, 0, 0),
     (UnOp::Negate, Kind::Bool, 1, 1),
     (UnOp::Negate, Kind::I8, -128, -128),
@@ -519,18 +534,13 @@ fn given(op: BinOp, k: Kind, a: i128, b: i128) -> Result<i128, TrapKind> {
     }
 }
 
-// Likewise for `unary`.
-fn given_one(op: UnOp, k: Kind, a: i128) -> i128 {
-    unary(op, k, wrap(k, a))
-}
-
 #[test]
 fn operators(rt: HostRuntime) {
     for &(op, k, a, b, want) in &BINARY {
         assert_eq!(rt; given(op, k, a, b), want, "{op:?} {k:?} {a} {b}");
     }
     for &(op, k, a, want) in &UNARY {
-        assert_eq!(rt; given_one(op, k, a), want, "{op:?} {k:?} {a}");
+        assert_eq!(rt; unary(op, k, a), want, "{op:?} {k:?} {a}");
     }
 }
 

@@ -7,8 +7,8 @@ use Rattle.dc_machine.specs.declared.state.Fault.{Fault}
 use Rattle.dc_machine.specs.After.{machine_of}
 use Rattle.dc_machine.specs.Program.{Program}
 use Rattle.dc_machine.specs.Running.{Runs}
-use Rattle.dc_machine.specs.Runs.{RanTo, BreaksOff}
-use Rattle.dc_machine.proofs.Reports.{ended, broken, takes}
+use Rattle.dc_machine.specs.Runs.{RanTo, BreaksOff, BreaksAtPut}
+use Rattle.dc_machine.proofs.Reports.{ended, broken, broken_at_put, takes}
 use Rattle.dc_machine.proofs.machine.run_loaded.Goals as goal
 
 pub returns-in-Ok-clause-ran : goal.returns-in-Ok-clause-ran
@@ -44,5 +44,5 @@ returns-clause-ran g c =
     let from = On (machine_of code c.first_state-state.result 0 []) in
     let P : Result Halt Fault → Type 0 = λ r. Runs code limits from c.run_on.new.m old new r in
     let e = subst P (c.in-Err-Failed.is ∙ ap (λ f. Err f) c.in-Err-Failed.field-0-is) c.run_on.ensures.runs in
-    let Q : Program → Type 0 = λ p. BreaksOff p.code c.args.entry p.limits old new in
-    subst Q c.loaded.view_is (broken code c.args.entry limits old new from c.first_state-state.ensures.start e)
+    let Q : Program → Type 0 = λ p. BreaksAtPut p.code c.args.entry p.limits old new in
+    subst Q c.loaded.view_is (broken_at_put code c.args.entry limits old new from c.first_state-state.ensures.start e)

@@ -26,4 +26,4 @@ pub returns-in-Ok-print-clause-advances : goal.returns-in-Ok-print-clause-advanc
 returns-in-Ok-print-clause-advances g c = let P : Next → Type 0 = λ next. Stepped c.args.code.now c.args.limits c.args.m.now next c.step.new.m in let s = subst P c.in-Prints.is c.in-Ok.ensures.ok in prints c.args.code.now c.args.limits c.args.m.now c.step.new.m s _ (g.S.Sink.taken c.args.out.now) (g.S.Sink.taken c.print.new.out) refl refl refl refl refl refl c.in-Ok-print.ensures.empty (c.in-Ok-print.ensures.content).done
 
 pub returns-in-Err-Failed-clause-advances : goal.returns-in-Err-Failed-clause-advances
-returns-in-Err-Failed-clause-advances g c = let P : Next → Type 0 = λ next. Stepped c.args.code.now c.args.limits c.args.m.now next c.step.new.m in let s = subst P c.in-Prints.is c.in-Ok.ensures.ok in breaks c.args.code.now c.args.limits c.args.m.now c.step.new.m s (g.S.Sink.taken c.args.out.now) (g.S.Sink.taken c.print.new.out) (search rules)
+returns-in-Err-Failed-clause-advances g c = let P : Next → Type 0 = λ next. Stepped c.args.code.now c.args.limits c.args.m.now next c.step.new.m in let s = subst P c.in-Prints.is c.in-Ok.ensures.ok in breaks c.args.code.now c.args.limits c.args.m.now c.step.new.m s (g.S.Sink.taken c.args.out.now) (g.S.Sink.taken c.print.new.out) (search rules) (search rules)
