@@ -28,7 +28,7 @@ open_shut t u v (inl a) b = absurd (let n = heads 123 125 u v (sym a ∙ b) in o
 open_shut t u v (inr a) b = absurd (let n = heads 113 125 (123 ∷ u) v (sym a ∙ b) in omega arith)
 
 -- a token string at a text has one end
-string_one : (t w u v x : Bytes) → t ≡ w ++ u → t ≡ v ++ x → IsTokenString w u → IsTokenString v x → u ≡ x
+pub string_one : (t w u v x : Bytes) → t ≡ w ++ u → t ≡ v ++ x → IsTokenString w u → IsTokenString v x → u ≡ x
 string_one t w u v x p q a b =
     let e = begun 113 123 t (is_string t w u p a) in
     let r = to_scan q_brace (125 ∷ []) OpensBrace OtherItem opens_ahead other_ahead (drop 2 t) w u (sym e ∙ p) a in
@@ -54,7 +54,7 @@ string_next t w u p s =
     go : (other : Item) (v x : Bytes) → t ≡ v ++ x → IsItem Spells other v x → other ≡ item.TokenString → length v ≤ length w
     go other v x q i e = same_length w u v x (sym p ∙ q) (string_one t w u v x p q s (subst (λ k. Spells k v x) e i.spells))
 
-begins_of : (x : Bool) (t : Bytes) → begins 113 123 t ≡ x → ((v : Bytes) → t ≡ 113 ∷ 123 ∷ v → ⊥) → begins 113 123 t ≡ false
+pub begins_of : (x : Bool) (t : Bytes) → begins 113 123 t ≡ x → ((v : Bytes) → t ≡ 113 ∷ 123 ∷ v → ⊥) → begins 113 123 t ≡ false
 begins_of true t h none = absurd (none (drop 2 t) (begun 113 123 t h))
 begins_of false t h none = h
 

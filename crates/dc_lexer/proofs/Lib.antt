@@ -15,3 +15,14 @@ pub mod Inner
 pub mod Hexadecimals
 pub mod Quotes
 pub mod OneKind
+pub mod Solid
+pub mod Agreeing
+pub mod Gaps
+pub mod Swapped
+pub mod Quoting
+pub mod Kept
+pub mod Stays
+pub mod Stopped
+pub mod Braced
+pub mod Placed
+pub mod WholeText

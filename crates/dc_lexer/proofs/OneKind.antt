@@ -135,7 +135,7 @@ module _ (t w u : Bytes) (parts : t ≡ w ++ u) where
   one_plain lead_is.Point e k j a b = of_two item.Sign item.PointFloat k j (at_point k (first_can t lead_is.Point e k w u parts a)) (at_point j (first_can t lead_is.Point e j w u parts b)) a b points
   one_plain lead_is.Other e k j a b = same item.Sign k j (only_sign k w u a (first_can t lead_is.Other e k w u parts a)) (only_sign j w u b (first_can t lead_is.Other e j w u parts b))
 
-  one_kind : (x : Bool) → begins 113 123 t ≡ x → (k j : Item) → IsItem Spells k w u → IsItem Spells j w u → k ≡ j
+  pub one_kind : (x : Bool) → begins 113 123 t ≡ x → (k j : Item) → IsItem Spells k w u → IsItem Spells j w u → k ≡ j
   one_kind true h k j a b = same item.TokenString k j (only_string t h k w u parts a (string_can t h k w u parts a)) (only_string t h j w u parts b (string_can t h j w u parts b))
   one_kind false h k j a b = one_plain (lead (get_or t 0 0)) refl k j (plain_is k w u (not_string t h k w u parts a) a) (plain_is j w u (not_string t h j w u parts b) b)
 
@@ -147,19 +147,19 @@ next_kind t k j w v u x a b =
 
 -- ---- one reading
 
-record Behind (at : ℕ) (t w rest : Bytes) (kind : Item) (us : List Token) : Type 0 where
-  more : List Token
-  parts : us ≡ (token kind w at ∷ more)
-  reads : Reads (at + length w) rest more
+pub record Behind (at : ℕ) (t w rest : Bytes) (kind : Item) (us : List Token) : Type 0 where
+  pub more : List Token
+  pub parts : us ≡ (token kind w at ∷ more)
+  pub reads : Reads (at + length w) rest more
 
-then_space : (at : ℕ) (t : Bytes) (k : Item) (w rest : Bytes) (us : List Token) → Next Spells t k w rest → is_token k ≡ false → Reads at t us → Reads (at + length w) rest us
+pub then_space : (at : ℕ) (t : Bytes) (k : Item) (w rest : Bytes) (us : List Token) → Next Spells t k w rest → is_token k ≡ false → Reads at t us → Reads (at + length w) rest us
 then_space at t k w rest us n nay Reads.end = absurd (no_next [] k w rest refl n)
 then_space at t k w rest us n nay (Reads.space {kind = j} {w = v} {rest = x} m no_token r) =
     subst (λ (y : Bytes). Reads (at + length w) y us) (next_rest Spells t j k v w x rest m n) (subst (λ y. Reads (at + y) x us) (next_size Spells t j k v w x rest m n) r)
 then_space at t k w rest us n nay (Reads.token_then {kind = j} {w = v} {rest = x} m yea r) =
     absurd (let e = next_kind t j k v w x rest m n in let g : is_token k ≡ true = subst (λ i. is_token i ≡ true) e yea in let h : false ≡ true = sym nay ∙ g in cc)
 
-then_token : (at : ℕ) (t : Bytes) (k : Item) (w rest : Bytes) (us : List Token) → Next Spells t k w rest → is_token k ≡ true → Reads at t us → Behind at t w rest k us
+pub then_token : (at : ℕ) (t : Bytes) (k : Item) (w rest : Bytes) (us : List Token) → Next Spells t k w rest → is_token k ≡ true → Reads at t us → Behind at t w rest k us
 then_token at t k w rest us n yea Reads.end = absurd (no_next [] k w rest refl n)
 then_token at t k w rest us n yea (Reads.space {kind = j} {w = v} {rest = x} m nay r) =
     absurd (let e = next_kind t j k v w x rest m n in let g : is_token k ≡ false = subst (λ i. is_token i ≡ false) e nay in let h : false ≡ true = sym g ∙ yea in cc)

@@ -165,7 +165,7 @@ same_bytes [] (b ∷ w) h = absurd (let k : false ≡ true = h in cc)
 same_bytes (a ∷ x) [] h = absurd (let k : false ≡ true = h in cc)
 same_bytes (a ∷ x) (b ∷ w) h = let p = and_parts (a == b) (bytes_eq x w) h in let e = equal a b p.0 in let f = same_bytes x w p.1 in cc
 
-among_all : (xs : List Bytes) (w : Bytes) (p : Bytes → Bool) → among xs w ≡ true → list_all p xs ≡ true → p w ≡ true
+pub among_all : (xs : List Bytes) (w : Bytes) (p : Bytes → Bool) → among xs w ≡ true → list_all p xs ≡ true → p w ≡ true
 among_all [] w p h g = absurd (let k : false ≡ true = h in cc)
 among_all (x ∷ xs) w p h g = go (or_split (bytes_eq x w) (among xs w) h) (and_parts (p x) (list_all p xs) g) (among_all xs w p)
   where

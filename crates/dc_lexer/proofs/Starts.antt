@@ -45,7 +45,7 @@ head_of (b ∷ c ∷ d ∷ []) h = record { head = b; tail = c ∷ d ∷ []; par
 head_of (b ∷ c ∷ d ∷ e ∷ []) h = record { head = b; tail = c ∷ d ∷ e ∷ []; parts = refl; can = single_class b (double_single b c (triple_double b c d (quadruple_triple b c d e h))) }
 head_of (b ∷ c ∷ d ∷ e ∷ f ∷ w) h = absurd (let k : false ≡ true = h in cc)
 
-positive : (c : ℕ) → 1 ≤ length (encode_utf8 c)
+pub positive : (c : ℕ) → 1 ≤ length (encode_utf8 c)
 positive c = rw length-encode (grind (arith, nat_tests))
 
 high_letter : (b : ℕ) → 128 ≤ b → is_letter b ≡ true

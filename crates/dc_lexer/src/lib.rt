@@ -9,9 +9,11 @@ mod plain;
 mod scan;
 mod set;
 mod sign;
+mod spaces;
 mod string;
 #[cfg(test)]
 mod tests;
 mod token_string;
 
 pub use scan::{laws, lex};
+pub use spaces::space_moves;
