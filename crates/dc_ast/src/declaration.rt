@@ -15,10 +15,18 @@ pub struct ModuleTree {
     pub declarations: Decls,
 }
 
-/// A declaration with the words before it (D specification, "Attributes").
+/// A declaration, and where it begins, with the words before it (D specification, "Attributes").
 #[cycle(declarations)]
 #[derive(Drop)]
-pub enum Declaration {
+pub struct Declaration {
+    pub at: u32,
+    pub form: DeclarationForm,
+}
+
+/// What stands at the place of a declaration.
+#[cycle(declarations)]
+#[derive(Drop)]
+pub enum DeclarationForm {
     Plain(Items<Attribute>, Plain),
     /// `private { .. }`: at least one word.
     Group(Items<Attribute>, Items<Declaration>),

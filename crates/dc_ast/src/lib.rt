@@ -14,8 +14,8 @@ mod types;
 mod word;
 
 pub use declaration::{
-    Declaration, DeclarationBody, DeclarationBranch, DeclarationKind, Decls, FunctionTree,
-    ModuleTree, Parameter, Plain, StaticDeclaration, StructTree, TemplateTree,
+    Declaration, DeclarationBody, DeclarationBranch, DeclarationForm, DeclarationKind, Decls,
+    FunctionTree, ModuleTree, Parameter, Plain, StaticDeclaration, StructTree, TemplateTree,
 };
 pub use expression::{Argument, Expr, ExprKind, IsAgainst, IsTest, IsTree, Step, Suffix, Symbol};
 pub use name::{Name, Path, Spelling, copy_name};

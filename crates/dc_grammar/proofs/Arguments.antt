@@ -1,5 +1,5 @@
 -- Rules with no expression inside, types without names, and arguments.
-use Rattle.std.proofs.Common.{cond, ◌≡◌, ℕ, zero, suc, ◌+◌, ◌<◌, ◌≤◌, Bool, true, false, ◌⊎◌, List, [], ◌∷◌, ◌++◌, length, Some, None, refl, sym, ap, subst, ◌∙◌, append_assoc, arith, inl, inr, length-append}
+use Rattle.std.proofs.Common.{cond, ◌≡◌, ℕ, suc, ◌+◌, ◌-◌, ◌&&◌, ◌≤◌, Bool, true, false, List, [], ◌∷◌, ◌++◌, length, Some, None, refl, sym, ap, subst, ◌∙◌, append_assoc, arith, length-append}
 use Rattle.dc_token.specs.declared.token.Token.{Token}
 use Rattle.dc_ast.specs.declared.word.BasicType.{BasicType}
 use Rattle.dc_ast.specs.declared.expression.Expr.{Expr}
@@ -18,16 +18,18 @@ use Rattle.dc_grammar.specs.Grammar.{Mark, Named, Means, Id, Word, IsExpr, IsCon
 use Rattle.dc_grammar.specs.declared.level.Level.{Level}
 use Rattle.dc_grammar.specs.declared.level.Level.TheVariants as l
 use Rattle.dc_grammar.specs.Reading.{Outcome, Reader, either, or_else, ◌<$>◌, and_then, pure}
+use Rattle.dc_grammar.specs.Brackets.{behind_parens, names_member}
 use Rattle.dc_grammar.specs.Readers as spec
 use Rattle.dc_grammar.specs.Readers.{word, chain, compared, chosen, assigned, or_empty, between, length_of}
 use Rattle.dc_grammar.proofs.Good.{Good, Holds, Begins, Reaches, none, named_good, mark_good, means_good, given_by, is, is_same, wider}
-use Rattle.dc_grammar.proofs.Lists.{Many, loose_maybe, refused, exact}
+use Rattle.dc_grammar.proofs.Lists.{Many, loose_maybe, refused}
 use Rattle.dc_grammar.proofs.Choices.{outside}
 use Rattle.dc_grammar.proofs.Tools.{pair, seq, seq_loose, loose_seq, repeated, one_of, Over, Image, image, loose_image, rule, lower, or_none, Placed, placed}
 use Rattle.dc_grammar.proofs.Tools as tools
 use Rattle.dc_grammar.proofs.Forms.{FNext, FBracket, FTypeOf, FImmutableChar, FBasic, FPlainType, FOneValue, FOneBasic, FProperty, brackets_into, brackets_back, plain_base_into, plain_base_back, single_into, single_back}
 use Rattle.dc_grammar.proofs.Edges.{begins_single, begins_expr, begins_plain_base, begins_argument, after_postfix, after_conditional, after_expr}
-use Rattle.dc_grammar.proofs.Dotted.{Dotted, dotted_expr}
+use Rattle.dc_grammar.proofs.Dotted.{Dotted, dotted_expr, named_on}
+use Rattle.dc_grammar.proofs.Balance.{in_expr}
 
 -- the readers one level further down are as they are to be, for texts of at most n tokens
 pub record Inner (n : ℕ) (inner : Level → Reader Expr) : Type 0 where
@@ -141,31 +143,47 @@ chosen_by : (A : Outcome Argument → Type 0) (c : Bool) (x y : Outcome Argument
 chosen_by A true x y p q = p
 chosen_by A false x y p q = q
 
-same_head : (kind : Terminal) (v ts : Tokens) (u : Token) (us : Tokens) → Mark kind v → v ++ ts ≡ u ∷ us → terminal_of u ≡ kind
-same_head kind v ts u us m e =
-    let whole : m.token ∷ ts ≡ u ∷ us = ap (λ (w : Tokens). w ++ ts) (sym m.alone) ∙ e in
-    let same : m.token ≡ u = cc in
-    ap terminal_of (sym same) ∙ m.is
+-- a dot and a name at the start of a text
+record Member (ts : Tokens) : Type 0 where
+  dot : Token
+  name : Token
+  rest : Tokens
+  parts : ts ≡ dot ∷ (name ∷ rest)
+  is_dot : terminal_of dot ≡ k.Dot
+  is_name : terminal_of name ≡ k.Name
 
-same_tail : (kind : Terminal) (v ts : Tokens) (u : Token) (us : Tokens) → Mark kind v → v ++ ts ≡ u ∷ us → ts ≡ us
-same_tail kind v ts u us m e =
-    let whole : m.token ∷ ts ≡ u ∷ us = ap (λ (w : Tokens). w ++ ts) (sym m.alone) ∙ e in
-    cc
+both_true : (c d : Bool) → (c && d) ≡ true → (c ≡ true) × (d ≡ true)
+both_true true true e = (refl, refl)
+both_true true false e = absurd cc
+both_true false d e = absurd cc
 
-behind_marks : (kind other : Terminal) (v w ts us : Tokens) → Mark kind v → Mark other w → v ++ ts ≡ w ++ us → ts ≡ us
-behind_marks kind other v w ts us m n e = same_tail kind v ts n.token us m (e ∙ ap (λ (x : Tokens). x ++ us) n.alone)
-
-is_same_dot : (kind : Terminal) → same_terminal kind k.Dot ≡ true → kind ≡ k.Dot
-is_same_dot kind e = is_same k.Dot kind e
-
-compare_lengths : (m p : ℕ) → (m ≤ p) ⊎ (p < m)
-compare_lengths zero p = inl (omega arith)
-compare_lengths (suc m) zero = inr (omega arith)
-compare_lengths (suc m) (suc p) = go (compare_lengths m p)
+member_of : (ts : Tokens) → names_member ts ≡ true → Member ts
+member_of [] e = absurd cc
+member_of (dot ∷ ts) e = let b = both_true (same_terminal (terminal_of dot) k.Dot) (same_terminal (ahead ts) k.Name) e in go ts (is_same k.Name (ahead ts) b.1) (is_same k.Dot (terminal_of dot) b.0)
   where
-    go : (m ≤ p) ⊎ (p < m) → (suc m ≤ suc p) ⊎ (suc p < suc m)
-    go (inl h) = inl (omega arith)
-    go (inr h) = inr (omega arith)
+    go : (us : Tokens) → ahead us ≡ k.Name → terminal_of dot ≡ k.Dot → Member (dot ∷ us)
+    go [] e d = absurd cc
+    go (name ∷ us) e d = record { dot = dot; name = name; rest = us; parts = refl; is_dot = d; is_name = e }
+
+member_true : (v w : Tokens) → Mark k.Dot v → ahead w ≡ k.Name → names_member (v ++ w) ≡ true
+unfolding same_terminal
+member_true v w m e = rw (m.alone, m.is, e) refl
+
+-- what stands behind a `typeof(..)`
+scanned : (w1 w2 w3 w4 : Tokens) (x : Expr) (rest : Tokens) → Mark k.TypeOf w1 → Mark k.LeftParen w2 → IsExpr w3 x → Mark k.RightParen w4 → behind_parens (w1 ++ (w2 ++ (w3 ++ (w4 ++ rest)))) ≡ rest
+scanned w1 w2 w3 w4 x rest m1 m2 h m4 = rw (m1.alone, m1.is, m2.alone, m2.is) ((in_expr h).passes 0 (w4 ++ rest) ∙ rw (m4.alone, m4.is) refl)
+
+append_nil : (ts : Tokens) → ts ++ [] ≡ ts
+append_nil [] = refl
+append_nil (u ∷ us) = ap (λ (ts : Tokens). u ∷ ts) (append_nil us)
+
+postfix_expr : (w : Tokens) (x : Expr) → IsPostfix w x → IsExpr w x
+postfix_expr w x h = g.a_conditional (g.an_or (g.an_and (g.a_bit_or (g.a_bit_xor (g.a_bit_and (g.a_comparison (g.a_shift (g.a_sum (g.a_product (g.a_unary (g.a_postfix h)))))))))))
+
+-- what was read goes past the end of the text that is to be read
+beyond : (r : Outcome Expr) (x : Expr) (far rest : Tokens) (y : Argument) → Reaches after_expr r x far → length far ≤ length rest → after_expr (ahead rest) ≡ true → Reaches after_expr (and_then r (λ z. pure (a.Value z))) y rest
+beyond (Some r) x far rest y h less on = (omega arith, λ stop. let clash : true ≡ false = sym on ∙ stop in absurd cc)
+beyond None x far rest y h less on = absurd h
 
 module _ (n : ℕ) (inner : Level → Reader Expr) (i : Inner n inner) where
   type_of_good : Good (suc n) none (is k.TypeOf) FTypeOf (spec.type_of inner)
@@ -203,42 +221,30 @@ module _ (n : ℕ) (inner : Level → Reader Expr) (i : Inner n inner) where
   value_or_type_sound : (ts : Tokens) → Holds IsArgument ts (spec.value_or_type inner ts)
   value_or_type_sound ts = join ts ((a.Value <$> inner l.Whole) ts) ((a.OfType <$> spec.plain_type inner) ts) (value_good.sound ts) (of_type_good.sound ts)
 
+  valued : (ts : Tokens) (s : Outcome Argument) → Holds (Image a.Value IsExpr) ts s → Holds IsArgument ts s
+  valued ts (Some s) c = record { front = c.front; parts = c.parts; is = value_into c.front s.0 c.is }
+  valued ts None c = tt
+
   argument_sound : (ts : Tokens) → Holds IsArgument ts (spec.argument inner ts)
   unfolding spec.argument
   argument_sound ts = go (ahead ts)
     where
-      behind : (r : Outcome Base) → Holds IsArgument ts (spec.behind_type_of inner r ts)
-      behind (Some p) = chosen_by (Holds IsArgument ts) (same_terminal (ahead p.1) k.Dot) (spec.value_or_type inner ts) ((a.OfType <$> spec.plain_type inner) ts) (value_or_type_sound ts) (typed ts ((a.OfType <$> spec.plain_type inner) ts) (of_type_good.sound ts))
-      behind None = tt
-
       go : (kind : Terminal) → Holds IsArgument ts (spec.argument_by inner kind ts)
-      go k.TypeOf = behind (spec.type_of inner ts)
+      go k.TypeOf = chosen_by (Holds IsArgument ts) (names_member (behind_parens ts)) ((a.Value <$> inner l.Whole) ts) ((a.OfType <$> spec.plain_type inner) ts) (valued ts ((a.Value <$> inner l.Whole) ts) (value_good.sound ts)) (typed ts ((a.OfType <$> spec.plain_type inner) ts) (of_type_good.sound ts))
       go _ = value_or_type_sound ts
-
-  type_of_reads : (w1 w2 w3 w4 : Tokens) (x : Expr) (rest : Tokens) → length (w1 ++ (w2 ++ (w3 ++ w4))) ≤ suc n → Mark k.TypeOf w1 → Mark k.LeftParen w2 → IsExpr w3 x → Mark k.RightParen w4
-      → spec.type_of inner ((w1 ++ (w2 ++ (w3 ++ w4))) ++ rest) ≡ Some (b.TypeOf x, rest)
-  type_of_reads w1 w2 w3 w4 x rest len m1 m2 h m4 =
-      exact (spec.type_of inner ((w1 ++ (w2 ++ (w3 ++ w4))) ++ rest)) (b.TypeOf x) rest
-      (type_of_good.reach (w1 ++ (w2 ++ (w3 ++ w4))) (b.TypeOf x) rest len ((tt, (tt, (x, tt))), pair w1 (w2 ++ (w3 ++ w4)) m1 (pair w2 (w3 ++ w4) m2 (pair w3 w4 h m4)), refl))
 
   value_reach : (front : Tokens) (x : Expr) (rest : Tokens) → length front ≤ n → IsExpr front x → Reaches after_expr (spec.value_or_type inner (front ++ rest)) (a.Value x) rest
   value_reach front x rest len h = first after_expr (a.Value x) rest ((a.Value <$> inner l.Whole) (front ++ rest)) ((a.OfType <$> spec.plain_type inner) (front ++ rest)) (value_good.reach front (a.Value x) rest len (x, h, refl))
 
-  value_behind : (front : Tokens) (x : Expr) (rest : Tokens) → length front ≤ n → IsExpr front x → (d : Dotted front) → terminal_of d.head ≡ k.TypeOf
-      → Reaches after_expr (spec.behind_type_of inner (spec.type_of inner (front ++ rest)) (front ++ rest)) (a.Value x) rest
-  unfolding same_terminal
+  value_behind : (front : Tokens) (x : Expr) (rest : Tokens) → length front ≤ n → IsExpr front x → (d : Dotted front) → terminal_of d.head ≡ k.TypeOf → Reaches after_expr (spec.type_of_argument inner (front ++ rest)) (a.Value x) rest
   value_behind front x rest len h d eq =
       let q = d.of eq in
-      let u = (d.head ∷ []) ++ (q.open_mark ++ (q.inside ++ q.close_mark)) in
-      let shape : front ≡ u ++ (q.dot_mark ++ q.after) = d.parts ∙ ap (λ (ts : Tokens). d.head ∷ ts) (q.parts ∙ rw (append_assoc, append_assoc) refl) in
-      let count : length front ≡ length u + length (q.dot_mark ++ q.after) = ap length shape ∙ length-append u (q.dot_mark ++ q.after) in
-      let read : spec.type_of inner (u ++ ((q.dot_mark ++ q.after) ++ rest)) ≡ Some (b.TypeOf q.tree, (q.dot_mark ++ q.after) ++ rest) =
-      type_of_reads (d.head ∷ []) q.open_mark q.inside q.close_mark q.tree ((q.dot_mark ++ q.after) ++ rest) (omega arith) (record { token = d.head; alone = refl; is = eq }) q.opens q.holds q.closes in
-      let whole : front ++ rest ≡ u ++ ((q.dot_mark ++ q.after) ++ rest) = ap (λ (ts : Tokens). ts ++ rest) shape ∙ append_assoc u (q.dot_mark ++ q.after) rest in
-      let read2 : spec.type_of inner (front ++ rest) ≡ Some (b.TypeOf q.tree, (q.dot_mark ++ q.after) ++ rest) = ap (λ (ts : Tokens). spec.type_of inner ts) whole ∙ read in
-      let dot : same_terminal (ahead ((q.dot_mark ++ q.after) ++ rest)) k.Dot ≡ true = rw (q.dots.alone, q.dots.is) refl in
-      let same : spec.behind_type_of inner (spec.type_of inner (front ++ rest)) (front ++ rest) ≡ spec.value_or_type inner (front ++ rest) = rw (read2, dot) refl in
-      rw same (value_reach front x rest len h)
+      let whole : front ++ rest ≡ (d.head ∷ []) ++ (q.open_mark ++ (q.inside ++ (q.close_mark ++ (q.dot_mark ++ (q.after ++ rest))))) =
+      ap (λ (ts : Tokens). ts ++ rest) (d.parts ∙ ap (λ (ts : Tokens). d.head ∷ ts) q.parts) ∙ rw (append_assoc, append_assoc, append_assoc, append_assoc) refl in
+      let behind : behind_parens (front ++ rest) ≡ q.dot_mark ++ (q.after ++ rest) =
+      ap behind_parens whole ∙ scanned (d.head ∷ []) q.open_mark q.inside q.close_mark q.tree (q.dot_mark ++ (q.after ++ rest)) (record { token = d.head; alone = refl; is = eq }) q.opens q.holds q.closes in
+      let member : names_member (behind_parens (front ++ rest)) ≡ true = ap names_member behind ∙ member_true q.dot_mark (q.after ++ rest) q.dots (named_on q.after rest q.names) in
+      rw member (value_good.reach front (a.Value x) rest len (x, h, refl))
 
   of_type_reach : (w1 w2 : Tokens) (x : Base) (ys : List Bracket) (rest : Tokens) → length (w1 ++ w2) ≤ n → IsPlainBase w1 x → AreBrackets w2 ys
       → Reaches (is k.LeftBracket) ((a.OfType <$> spec.plain_type inner) ((w1 ++ w2) ++ rest)) (a.OfType (type_tree (start_of (w1 ++ w2)) x ys)) rest
@@ -251,79 +257,49 @@ module _ (n : ℕ) (inner : Level → Reader Expr) (i : Inner n inner) where
       second (is k.LeftBracket) after_expr (a.OfType (type_tree (start_of (w1 ++ w2)) x ys)) rest ((a.Value <$> inner l.Whole) ((w1 ++ w2) ++ rest)) ((a.OfType <$> spec.plain_type inner) ((w1 ++ w2) ++ rest))
       (outside (is k.LeftBracket) after_expr refl) (over_value after_expr rest (inner l.Whole ((w1 ++ w2) ++ rest)) over) (of_type_reach w1 w2 x ys rest len h c)
 
-  no_shorter_than : (v inside later shut : Tokens) (x y : Expr) (r : Outcome Expr) → (length inside ≤ n) ⊎ (n < length inside) → length v ≤ n → length v + length shut ≡ length inside + length later → Reaches after_expr r x shut
-      → (length inside ≤ n → Reaches after_expr r y later) → after_expr (ahead later) ≡ false → length v ≤ length inside
-  no_shorter_than v inside later shut x y r (inr far) len count one two stop = omega arith
-  no_shorter_than v inside later shut x y None (inl near) len count one two stop = absurd one
-  no_shorter_than v inside later shut x y (Some r) (inl near) len count one two stop =
-      let e = (two near).1 stop in
-      let same : length r.1 ≡ length later = ap length e.1 in
-      let less : length r.1 ≤ length shut = one.0 in
-      omega arith
-
-  -- where a `typeof` with a dot behind it was read in place of a type, it is no shorter
-  of_over : (v1 v2 v3 v4 : Tokens) (x : Expr) (rest : Tokens) → length v3 ≤ n → Mark k.TypeOf v1 → Mark k.LeftParen v2 → IsExpr v3 x → Mark k.RightParen v4 → ahead rest ≡ k.Dot
-      → (r : Outcome Expr) → Holds IsExpr (v1 ++ (v2 ++ (v3 ++ (v4 ++ rest)))) r → Over after_expr r rest
+  no_brackets : (w2 : Tokens) (ys : List Bracket) (rest : Tokens) → AreBrackets w2 ys → names_member (w2 ++ rest) ≡ true → w2 ≡ []
   unfolding same_terminal
-  of_over v1 v2 v3 v4 x rest len m1 m2 hx m4 dot None h = tt
-  of_over v1 v2 v3 v4 x rest len m1 m2 hx m4 dot (Some r) h =
-      let d = dotted_expr h.front r.0 h.is in
-      let both_texts : v1 ++ (v2 ++ (v3 ++ (v4 ++ rest))) ≡ d.head ∷ (d.tail ++ r.1) = h.parts ∙ ap (λ (ts : Tokens). ts ++ r.1) d.parts in
-      let same = same_head k.TypeOf v1 (v2 ++ (v3 ++ (v4 ++ rest))) d.head (d.tail ++ r.1) m1 both_texts in
-      let tails = same_tail k.TypeOf v1 (v2 ++ (v3 ++ (v4 ++ rest))) d.head (d.tail ++ r.1) m1 both_texts in
-      let q = d.of same in
-      let later = q.close_mark ++ (q.dot_mark ++ (q.after ++ r.1)) in
-      let spread : d.tail ++ r.1 ≡ q.open_mark ++ (q.inside ++ later) = ap (λ (ts : Tokens). ts ++ r.1) q.parts ∙ rw (append_assoc, append_assoc, append_assoc, append_assoc) refl in
-      let texts = behind_marks k.LeftParen k.LeftParen v2 q.open_mark (v3 ++ (v4 ++ rest)) (q.inside ++ later) m2 q.opens (tails ∙ spread) in
-      let count1 : length (v3 ++ (v4 ++ rest)) ≡ length v3 + suc (length rest) = length-append v3 (v4 ++ rest) ∙ rw m4.alone refl in
-      let count2 : length (q.inside ++ later) ≡ length q.inside + suc (suc (length (q.after ++ r.1))) = length-append q.inside later ∙ rw (q.closes.alone, q.dots.alone) refl in
-      let counts : length (v3 ++ (v4 ++ rest)) ≡ length (q.inside ++ later) = ap length texts in
-      let count3 : length (q.after ++ r.1) ≡ length q.after + length r.1 = length-append q.after r.1 in
-      let reach1 : Reaches after_expr (inner l.Whole (v3 ++ (v4 ++ rest))) x (v4 ++ rest) = i.whole.reach v3 x (v4 ++ rest) len hx in
-      let stop : after_expr (ahead later) ≡ false = rw (q.closes.alone, q.closes.is) refl in
-      let closed : length (v4 ++ rest) ≡ suc (length rest) = rw m4.alone refl in
-      let more : length later ≡ suc (suc (length (q.after ++ r.1))) = rw (q.closes.alone, q.dots.alone) refl in
-      let no_shorter : length v3 ≤ length q.inside = no_shorter_than v3 q.inside later (v4 ++ rest) x q.tree (inner l.Whole (v3 ++ (v4 ++ rest))) (compare_lengths (length q.inside) n) len (omega arith) reach1 (λ le. subst (λ (ts : Tokens). Reaches after_expr (inner l.Whole ts) q.tree later) (sym texts) (i.whole.reach q.inside q.tree later le q.holds)) stop in
-      (omega arith, rw dot refl)
+  no_brackets w2 ys rest g.no_brackets e = refl
+  no_brackets w2 ys rest (g.open_bracket {w1 = u1} {w2 = u2} {w3 = u3} m h f) e = let clash : false ≡ true = rw (m.alone, m.is) at e in absurd cc
+  no_brackets w2 ys rest (g.fixed_bracket {w1 = u1} {w2 = u2} {w3 = u3} {w4 = u4} m h f q) e = let clash : false ≡ true = rw (m.alone, m.is) at e in absurd cc
 
-  of_argument_reach : (v1 v2 v3 v4 w2 : Tokens) (x : Expr) (ys : List Bracket) (rest : Tokens) → length ((v1 ++ (v2 ++ (v3 ++ v4))) ++ w2) ≤ n → Mark k.TypeOf v1 → Mark k.LeftParen v2 → IsExpr v3 x → Mark k.RightParen v4 → AreBrackets w2 ys
-      → Reaches after_expr (spec.behind_type_of inner (spec.type_of inner (((v1 ++ (v2 ++ (v3 ++ v4))) ++ w2) ++ rest)) (((v1 ++ (v2 ++ (v3 ++ v4))) ++ w2) ++ rest)) (a.OfType (type_tree (start_of ((v1 ++ (v2 ++ (v3 ++ v4))) ++ w2)) (b.TypeOf x) ys)) rest
+  -- where a member's name follows, an expression goes further
+  past_reach : (v1 v2 v3 v4 : Tokens) (x : Expr) (y : Argument) (rest : Tokens) → length (v1 ++ (v2 ++ (v3 ++ v4))) ≤ n - 2 → Mark k.TypeOf v1 → Mark k.LeftParen v2 → IsExpr v3 x → Mark k.RightParen v4 → Member rest
+      → Reaches after_expr ((a.Value <$> inner l.Whole) ((v1 ++ (v2 ++ (v3 ++ v4))) ++ rest)) y rest
+  unfolding same_terminal
+  past_reach v1 v2 v3 v4 x y rest len m1 m2 hx m4 d =
+      let dot : Tokens = d.dot ∷ [] in
+      let name : Tokens = d.name ∷ [] in
+      let front : Tokens = v1 ++ (v2 ++ (v3 ++ (v4 ++ (dot ++ name)))) in
+      let tree : Expr = g.placed front (e.TypeOfProperty x (name_of d.name)) in
+      let is : IsExpr front tree = postfix_expr front tree (g.an_operand (g.operand (g.type_of_property m1 m2 hx m4 (record { token = d.dot; alone = refl; is = d.is_dot }) (record { token = d.name; alone = refl; is = d.is_name; named = refl })))) in
+      let shape : (v1 ++ (v2 ++ (v3 ++ v4))) ++ (dot ++ name) ≡ front = rw (append_assoc, append_assoc, append_assoc) refl in
+      let count : length front ≡ length (v1 ++ (v2 ++ (v3 ++ v4))) + 2 = ap length (sym shape) ∙ length-append (v1 ++ (v2 ++ (v3 ++ v4))) (dot ++ name) in
+      let some : length (v1 ++ (v2 ++ (v3 ++ v4))) ≡ suc (length (v2 ++ (v3 ++ v4))) = rw (m1.alone) refl in
+      let whole : (v1 ++ (v2 ++ (v3 ++ v4))) ++ rest ≡ front ++ d.rest = ap (λ (ts : Tokens). (v1 ++ (v2 ++ (v3 ++ v4))) ++ ts) d.parts ∙ sym (append_assoc (v1 ++ (v2 ++ (v3 ++ v4))) (dot ++ name) d.rest) ∙ ap (λ (ts : Tokens). ts ++ d.rest) shape in
+      let far : Reaches after_expr (inner l.Whole (front ++ d.rest)) tree d.rest = i.whole.reach front tree d.rest (omega arith) is in
+      let shorter : length rest ≡ suc (suc (length d.rest)) = ap length d.parts in
+      beyond (inner l.Whole ((v1 ++ (v2 ++ (v3 ++ v4))) ++ rest)) tree d.rest rest y (rw whole far) (omega arith) (rw (d.parts, d.is_dot) refl)
+
+  of_argument_reach : (v1 v2 v3 v4 w2 : Tokens) (x : Expr) (ys : List Bracket) (rest : Tokens) → length ((v1 ++ (v2 ++ (v3 ++ v4))) ++ w2) ≤ n - 2 → Mark k.TypeOf v1 → Mark k.LeftParen v2 → IsExpr v3 x → Mark k.RightParen v4 → AreBrackets w2 ys
+      → Reaches after_expr (spec.type_of_argument inner (((v1 ++ (v2 ++ (v3 ++ v4))) ++ w2) ++ rest)) (a.OfType (type_tree (start_of ((v1 ++ (v2 ++ (v3 ++ v4))) ++ w2)) (b.TypeOf x) ys)) rest
   unfolding same_terminal
   of_argument_reach v1 v2 v3 v4 w2 x ys rest len m1 m2 hx m4 c =
-      let w1 = v1 ++ (v2 ++ (v3 ++ v4)) in
-      let tree = a.OfType (type_tree (start_of (w1 ++ w2)) (b.TypeOf x) ys) in
-      let count : length (w1 ++ w2) ≡ length w1 + length w2 = length-append w1 w2 in
-      let read : spec.type_of inner (w1 ++ (w2 ++ rest)) ≡ Some (b.TypeOf x, w2 ++ rest) = type_of_reads v1 v2 v3 v4 x (w2 ++ rest) (omega arith) m1 m2 hx m4 in
-      let read2 : spec.type_of inner ((w1 ++ w2) ++ rest) ≡ Some (b.TypeOf x, w2 ++ rest) = ap (λ (ts : Tokens). spec.type_of inner ts) (append_assoc w1 w2 rest) ∙ read in
-      rw read2 (go (same_terminal (ahead (w2 ++ rest)) k.Dot) refl)
+      let shape : ((v1 ++ (v2 ++ (v3 ++ v4))) ++ w2) ++ rest ≡ v1 ++ (v2 ++ (v3 ++ (v4 ++ (w2 ++ rest)))) = rw (append_assoc, append_assoc, append_assoc, append_assoc) refl in
+      let behind : behind_parens (((v1 ++ (v2 ++ (v3 ++ v4))) ++ w2) ++ rest) ≡ w2 ++ rest = ap behind_parens shape ∙ scanned v1 v2 v3 v4 x (w2 ++ rest) m1 m2 hx m4 in
+      rw behind (go (names_member (w2 ++ rest)) refl)
     where
-      base : IsPlainBase (v1 ++ (v2 ++ (v3 ++ v4))) (b.TypeOf x)
-      base = g.type_of m1 m2 hx m4
-
-      inside : length v3 ≤ n
-      inside =
-          let c1 : length ((v1 ++ (v2 ++ (v3 ++ v4))) ++ w2) ≡ length (v1 ++ (v2 ++ (v3 ++ v4))) + length w2 = length-append (v1 ++ (v2 ++ (v3 ++ v4))) w2 in
-          let c2 : length (v1 ++ (v2 ++ (v3 ++ v4))) ≡ length v1 + length (v2 ++ (v3 ++ v4)) = length-append v1 (v2 ++ (v3 ++ v4)) in
-          let c3 : length (v2 ++ (v3 ++ v4)) ≡ length v2 + length (v3 ++ v4) = length-append v2 (v3 ++ v4) in
-          let c4 : length (v3 ++ v4) ≡ length v3 + length v4 = length-append v3 v4 in
-          omega arith
-
-      no_brackets : (w2 : Tokens) (ys : List Bracket) → AreBrackets w2 ys → same_terminal (ahead (w2 ++ rest)) k.Dot ≡ true → w2 ≡ []
-      no_brackets w2 ys g.no_brackets e = refl
-      no_brackets w2 ys (g.open_bracket {w1 = u1} {w2 = u2} {w3 = u3} m h f) e = let clash : same_terminal k.LeftBracket k.Dot ≡ true = rw (m.alone, m.is) at e in absurd cc
-      no_brackets w2 ys (g.fixed_bracket {w1 = u1} {w2 = u2} {w3 = u3} {w4 = u4} m h f q) e = let clash : same_terminal k.LeftBracket k.Dot ≡ true = rw (m.alone, m.is) at e in absurd cc
-
-      go : (dot : Bool) → same_terminal (ahead (w2 ++ rest)) k.Dot ≡ dot
-          → Reaches after_expr (cond dot (spec.value_or_type inner (((v1 ++ (v2 ++ (v3 ++ v4))) ++ w2) ++ rest)) ((a.OfType <$> spec.plain_type inner) (((v1 ++ (v2 ++ (v3 ++ v4))) ++ w2) ++ rest))) (a.OfType (type_tree (start_of ((v1 ++ (v2 ++ (v3 ++ v4))) ++ w2)) (b.TypeOf x) ys)) rest
-      go false e = wider (is k.LeftBracket) after_expr ((a.OfType <$> spec.plain_type inner) (((v1 ++ (v2 ++ (v3 ++ v4))) ++ w2) ++ rest)) (a.OfType (type_tree (start_of ((v1 ++ (v2 ++ (v3 ++ v4))) ++ w2)) (b.TypeOf x) ys)) rest (outside (is k.LeftBracket) after_expr refl) (of_type_reach (v1 ++ (v2 ++ (v3 ++ v4))) w2 (b.TypeOf x) ys rest len base c)
+      go : (member : Bool) → names_member (w2 ++ rest) ≡ member
+          → Reaches after_expr (cond member ((a.Value <$> inner l.Whole) (((v1 ++ (v2 ++ (v3 ++ v4))) ++ w2) ++ rest)) ((a.OfType <$> spec.plain_type inner) (((v1 ++ (v2 ++ (v3 ++ v4))) ++ w2) ++ rest))) (a.OfType (type_tree (start_of ((v1 ++ (v2 ++ (v3 ++ v4))) ++ w2)) (b.TypeOf x) ys)) rest
+      go false e = wider (is k.LeftBracket) after_expr ((a.OfType <$> spec.plain_type inner) (((v1 ++ (v2 ++ (v3 ++ v4))) ++ w2) ++ rest)) (a.OfType (type_tree (start_of ((v1 ++ (v2 ++ (v3 ++ v4))) ++ w2)) (b.TypeOf x) ys)) rest (outside (is k.LeftBracket) after_expr refl) (of_type_reach (v1 ++ (v2 ++ (v3 ++ v4))) w2 (b.TypeOf x) ys rest (omega arith) (g.type_of m1 m2 hx m4) c)
       go true e =
-          let empty = no_brackets w2 ys c e in
-          let dot : ahead rest ≡ k.Dot = is_same_dot (ahead rest) (rw empty at e) in
-          let shape : ((v1 ++ (v2 ++ (v3 ++ v4))) ++ w2) ++ rest ≡ v1 ++ (v2 ++ (v3 ++ (v4 ++ rest))) = rw (empty, append_assoc, append_assoc, append_assoc, append_assoc) refl in
-          either_reach (v1 ++ (v2 ++ (v3 ++ v4))) w2 (b.TypeOf x) ys rest len base c
-          (of_over v1 v2 v3 v4 x rest inside m1 m2 hx m4 dot (inner l.Whole (((v1 ++ (v2 ++ (v3 ++ v4))) ++ w2) ++ rest)) (subst (λ (ts : Tokens). Holds IsExpr ts (inner l.Whole (((v1 ++ (v2 ++ (v3 ++ v4))) ++ w2) ++ rest))) shape (i.whole.sound (((v1 ++ (v2 ++ (v3 ++ v4))) ++ w2) ++ rest))))
+          let none_there = no_brackets w2 ys rest c e in
+          let same : (v1 ++ (v2 ++ (v3 ++ v4))) ++ w2 ≡ v1 ++ (v2 ++ (v3 ++ v4)) = ap (λ (ts : Tokens). (v1 ++ (v2 ++ (v3 ++ v4))) ++ ts) none_there ∙ append_nil (v1 ++ (v2 ++ (v3 ++ v4))) in
+          let len2 : length (v1 ++ (v2 ++ (v3 ++ v4))) ≤ n - 2 = rw same at len in
+          let d : Member rest = member_of rest (rw none_there at e) in
+          rw same (past_reach v1 v2 v3 v4 x (a.OfType (type_tree (start_of (v1 ++ (v2 ++ (v3 ++ v4)))) (b.TypeOf x) ys)) rest len2 m1 m2 hx m4 d)
 
-  argument_reach : (front : Tokens) (x : Argument) (rest : Tokens) → length front ≤ n → IsArgument front x → Reaches after_expr (spec.argument inner (front ++ rest)) x rest
+  argument_reach : (front : Tokens) (x : Argument) (rest : Tokens) → length front ≤ n - 2 → IsArgument front x → Reaches after_expr (spec.argument inner (front ++ rest)) x rest
   unfolding spec.argument same_terminal
   argument_reach front x rest len (g.value {x = y} h) = subst (λ (kind : Terminal). Reaches after_expr (spec.argument_by inner kind (front ++ rest)) (a.Value y) rest) (sym at) (go (terminal_of d.head) refl)
     where
@@ -334,19 +310,19 @@ module _ (n : ℕ) (inner : Level → Reader Expr) (i : Inner n inner) where
       at = ap (λ (ts : Tokens). ahead (ts ++ rest)) d.parts
 
       go : (kind : Terminal) → terminal_of d.head ≡ kind → Reaches after_expr (spec.argument_by inner kind (front ++ rest)) (a.Value y) rest
-      go k.TypeOf eq = value_behind front y rest len h d eq
-      go _ eq = value_reach front y rest len h
+      go k.TypeOf eq = value_behind front y rest (omega arith) h d eq
+      go _ eq = value_reach front y rest (omega arith) h
   argument_reach front x rest len (g.of_type {w1 = w1} {w2 = w2} {x = y} {ts = ys} h c) = go w1 y h len
     where
-      basics : (kind : Terminal) (w1 : Tokens) (y : BasicType) (m : Means basic_type w1 y) → terminal_of m.token ≡ kind → given_by basic_type kind ≡ true → length (w1 ++ w2) ≤ n
+      basics : (kind : Terminal) (w1 : Tokens) (y : BasicType) (m : Means basic_type w1 y) → terminal_of m.token ≡ kind → given_by basic_type kind ≡ true → length (w1 ++ w2) ≤ n - 2
           → Reaches after_expr (spec.argument_by inner kind ((w1 ++ w2) ++ rest)) (a.OfType (type_tree (start_of (w1 ++ w2)) (b.Basic y) ys)) rest
       basics k.TypeOf w1 y m eq given len = absurd cc
       basics _ w1 y m eq given len =
           let shape : (w1 ++ w2) ++ rest ≡ m.token ∷ (w2 ++ rest) = rw (m.alone) refl in
-          either_reach w1 w2 (b.Basic y) ys rest len (g.basic m) c
+          either_reach w1 w2 (b.Basic y) ys rest (omega arith) (g.basic m) c
           (basic_over m.token w2 rest ys (inner l.Whole ((w1 ++ w2) ++ rest)) (brackets_back w2 ys c) (rw eq given) (subst (λ (ts : Tokens). Holds IsExpr ts (inner l.Whole ((w1 ++ w2) ++ rest))) shape (i.whole.sound ((w1 ++ w2) ++ rest))))
 
-      go : (w1 : Tokens) (y : Base) → IsPlainBase w1 y → length (w1 ++ w2) ≤ n → Reaches after_expr (spec.argument inner ((w1 ++ w2) ++ rest)) (a.OfType (type_tree (start_of (w1 ++ w2)) y ys)) rest
+      go : (w1 : Tokens) (y : Base) → IsPlainBase w1 y → length (w1 ++ w2) ≤ n - 2 → Reaches after_expr (spec.argument inner ((w1 ++ w2) ++ rest)) (a.OfType (type_tree (start_of (w1 ++ w2)) y ys)) rest
       go w1 y (g.basic {y = t} m) len =
           let at : ahead ((w1 ++ w2) ++ rest) ≡ terminal_of m.token = rw (m.alone) refl in
           subst (λ (kind : Terminal). Reaches after_expr (spec.argument_by inner kind ((w1 ++ w2) ++ rest)) (a.OfType (type_tree (start_of (w1 ++ w2)) (b.Basic t) ys)) rest) (sym at) (basics (terminal_of m.token) w1 t m refl (rw (m.means) refl) len)
@@ -354,7 +330,7 @@ module _ (n : ℕ) (inner : Level → Reader Expr) (i : Inner n inner) where
           let at : ahead (((v1 ++ (v2 ++ (v3 ++ v4))) ++ w2) ++ rest) ≡ k.Immutable = rw (m1.alone, m1.is) refl in
           let never : inner l.Whole (((v1 ++ (v2 ++ (v3 ++ v4))) ++ w2) ++ rest) ≡ None = refused i.whole (((v1 ++ (v2 ++ (v3 ++ v4))) ++ w2) ++ rest) (rw at refl) in
           subst (λ (kind : Terminal). Reaches after_expr (spec.argument_by inner kind (((v1 ++ (v2 ++ (v3 ++ v4))) ++ w2) ++ rest)) (a.OfType (type_tree (start_of ((v1 ++ (v2 ++ (v3 ++ v4))) ++ w2)) b.ImmutableChar ys)) rest) (sym at)
-          (either_reach (v1 ++ (v2 ++ (v3 ++ v4))) w2 b.ImmutableChar ys rest len (g.immutable_char m1 m2 m3 m4) c (rw never tt))
+          (either_reach (v1 ++ (v2 ++ (v3 ++ v4))) w2 b.ImmutableChar ys rest (omega arith) (g.immutable_char m1 m2 m3 m4) c (rw never tt))
       go w1 y (g.type_of {w1 = v1} {w2 = v2} {w3 = v3} {w4 = v4} {x = z} m1 m2 hx m4) len =
           let at : ahead (((v1 ++ (v2 ++ (v3 ++ v4))) ++ w2) ++ rest) ≡ k.TypeOf = rw (m1.alone, m1.is) refl in
           subst (λ (kind : Terminal). Reaches after_expr (spec.argument_by inner kind (((v1 ++ (v2 ++ (v3 ++ v4))) ++ w2) ++ rest)) (a.OfType (type_tree (start_of ((v1 ++ (v2 ++ (v3 ++ v4))) ++ w2)) (b.TypeOf z) ys)) rest) (sym at)
@@ -366,5 +342,5 @@ module _ (n : ℕ) (inner : Level → Reader Expr) (i : Inner n inner) where
   argument_begins front x (g.of_type {w1 = w1} {w2 = w2} {x = y} {ts = ys} h c) =
       let d = plain_base_good.begins w1 y h in record { head = d.head; tail = d.tail ++ w2; parts = ap (λ (ts : Tokens). ts ++ w2) d.parts; kind = tools.more begins_plain_base begins_argument refl (terminal_of d.head) d.kind }
 
-  pub argument_good : Good n after_expr begins_argument IsArgument (spec.argument inner)
+  pub argument_good : Good (n - 2) after_expr begins_argument IsArgument (spec.argument inner)
   argument_good = record { sound = argument_sound; reach = argument_reach; begins = argument_begins }

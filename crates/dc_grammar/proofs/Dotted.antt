@@ -6,7 +6,7 @@ use Rattle.dc_ast.specs.declared.expression.ExprKind.{ExprKind}
 use Rattle.dc_ast.specs.declared.expression.Symbol.{Symbol}
 use Rattle.dc_grammar.specs.declared.terminal.Terminal.{Terminal}
 use Rattle.dc_grammar.specs.declared.terminal.Terminal.TheVariants as k
-use Rattle.dc_grammar.specs.Terminals.{Tokens, terminal_of, same_terminal, basic_type, unary_operator}
+use Rattle.dc_grammar.specs.Terminals.{Tokens, ahead, terminal_of, same_terminal, basic_type, unary_operator}
 use Rattle.dc_grammar.specs.Grammar as g
 use Rattle.dc_grammar.specs.Grammar.{Mark, Named, Means, Id, Word, placed, IsExpr, IsConditional, IsOr, AreOrs, IsAnd, AreAnds, IsBitOr, AreBitOrs, IsBitXor, AreBitXors, IsBitAnd, AreBitAnds, IsComparison, IsShift, AreShiftSteps, IsSum, AreTerms, IsProduct, AreFactors, IsUnary, IsPostfix, AreSlices, IsLength, AreSuffixes, IsSuffix, IsOperand, IsPrimary, IsIsTree, IsIsTest, IsAgainstWhat, MoreNames, AreExprs, MoreExprs, AreArguments, MoreArguments, IsArgument, IsSymbol, AreTemplateArguments, IsSingle, IsType, IsBareType, IsBase, MoreSymbols, IsPlainBase, AreBrackets}
 use Rattle.dc_grammar.proofs.Good.{Begins, given_by}
@@ -31,6 +31,7 @@ pub record OfDot (tail : Tokens) : Type 0 where
   pub holds : IsExpr inside tree
   pub closes : Mark k.RightParen close_mark
   pub dots : Mark k.Dot dot_mark
+  pub names : ahead after ≡ k.Name
 
 pub record Dotted (w : Tokens) : Type 0 where
   pub head : Token
@@ -39,6 +40,10 @@ pub record Dotted (w : Tokens) : Type 0 where
   pub kind : begins_expr (terminal_of head) ≡ true
   pub basic : given_by basic_type (terminal_of head) ≡ true → NextDot tail
   pub of : terminal_of head ≡ k.TypeOf → OfDot tail
+
+pub named_on : (v w : Tokens) → ahead v ≡ k.Name → ahead (v ++ w) ≡ k.Name
+named_on [] w e = absurd cc
+named_on (t ∷ v) w e = e
 
 on_with : (v w : Tokens) → Dotted v → Dotted (v ++ w)
 on_with v w d = record {
@@ -59,6 +64,7 @@ on_with v w d = record {
     holds = q.holds;
     closes = q.closes;
     dots = q.dots;
+    names = named_on q.after w q.names;
   };
 }
 
@@ -120,7 +126,7 @@ dotted_primary w x (g.type_of_property {w1 = w1} {w2 = w2} {w3 = w3} {w4 = w4} {
   parts = ap (λ (ts : Tokens). ts ++ (w2 ++ (w3 ++ (w4 ++ (w5 ++ w6))))) m1.alone;
   kind = rw m1.is refl;
   basic = λ b. let clash : given_by basic_type k.TypeOf ≡ true = rw m1.is at b in absurd cc;
-  of = λ q. record { open_mark = w2; inside = w3; close_mark = w4; dot_mark = w5; after = w6; tree = y; parts = refl; opens = m2; holds = h; closes = m4; dots = m5 };
+  of = λ q. record { open_mark = w2; inside = w3; close_mark = w4; dot_mark = w5; after = w6; tree = y; parts = refl; opens = m2; holds = h; closes = m4; dots = m5; names = rw (i.alone) i.is };
 }
 dotted_primary w x (g.mixin {w1 = w1} {w2 = w2} {w3 = w3} {w4 = w4} m m2 h c) = on_with w1 (w2 ++ (w3 ++ w4)) (marked k.Mixin w1 m refl refl (λ q. cc))
 dotted_primary w x (g.is_expr {w1 = w1} {w2 = w2} {w3 = w3} {w4 = w4} m m2 h c) = on_with w1 (w2 ++ (w3 ++ w4)) (marked k.Is w1 m refl refl (λ q. cc))

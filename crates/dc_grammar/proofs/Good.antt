@@ -190,11 +190,11 @@ or_right false b e = e
 pub shorter : {A : Type 0} (P : Tokens → A → Type 0) (ts : Tokens) (x : A) (rest : Tokens) → Fronts P ts x rest → length rest ≤ length ts
 shorter P ts x rest f = let e : length ts ≡ length f.front + length rest = ap length f.parts ∙ length-append f.front rest in omega arith
 
-abbrev Shrunk : {A : Type 0} → Tokens → Outcome A → Type 0
+abbrev pub Shrunk : {A : Type 0} → Tokens → Outcome A → Type 0
 Shrunk ts (Some p) = length p.1 ≤ length ts
 Shrunk ts None = ⊥
 
-shrunk : {A : Type 0} (P : Tokens → A → Type 0) (ts : Tokens) (r : Outcome A) → IsRead r → Holds P ts r → Shrunk ts r
+pub shrunk : {A : Type 0} (P : Tokens → A → Type 0) (ts : Tokens) (r : Outcome A) → IsRead r → Holds P ts r → Shrunk ts r
 shrunk P ts (Some r) s h = shorter P ts r.0 r.1 h
 shrunk P ts None s h = s
 
@@ -204,7 +204,7 @@ module _ {A B : Type 0} (P : Tokens → A → Type 0) (Q : Tokens → B → Type
   loose_end g x x' y mid rest (Some s) less shrunk h = (omega arith, λ stop. let e = h stop in let d = e.1.1 stop in (rw (e.0, d.0) refl, d.1))
   loose_end g x x' y mid rest None less shrunk h = absurd shrunk
 
-  loose_reach : (gP gQ : Terminal → Bool) (x : A) (y : B) (rest : Tokens) (r : Outcome A) → Reaches gP r x rest → ((ts : Tokens) → Shrunk ts (q ts))
+  pub loose_reach : (gP gQ : Terminal → Bool) (x : A) (y : B) (rest : Tokens) (r : Outcome A) → Reaches gP r x rest → ((ts : Tokens) → Shrunk ts (q ts))
       → Reaches gQ (q rest) y rest → Reaches {A = A × B} (or gP gQ) (joined r q) (x, y) rest
   loose_reach gP gQ x y rest (Some r) h shrinks s =
       loose_end (or gP gQ) x r.0 y r.1 rest (q r.1) h.0 (shrinks r.1)

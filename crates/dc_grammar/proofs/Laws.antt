@@ -48,7 +48,7 @@ unfolding same_terminal
 one_tree = record {
   expr = λ ts x y px py. same_tree (every_expr (length ts)) ts x y (omega arith) refl px py;
   type = λ ts x y px py. same_tree (every_type (length ts)) ts x y (omega arith) refl px py;
-  argument = λ ts x y px py. same_tree (argument_good (length ts) (expr_to (length ts)) (expr_good (length ts))) ts x y (omega arith) refl px py;
+  argument = λ ts x y px py. same_tree (argument_good (length ts + 2) (expr_to (length ts + 2)) (expr_good (length ts + 2))) ts x y (omega arith) refl px py;
 }
 
 pub whole_text : (n : ℕ) (ts : Tokens) → length ts ≤ n → take n ts ≡ ts
@@ -57,7 +57,7 @@ whole_text (suc n) [] le = refl
 whole_text zero (t ∷ ts) le = absurd (omega arith)
 whole_text (suc n) (t ∷ ts) le = ap (λ (us : Tokens). t ∷ us) (whole_text n ts (omega arith))
 
-at_start : (ts : Tokens) (m : ℕ) → take m ts ≡ slice_range ts 0 m
+pub at_start : (ts : Tokens) (m : ℕ) → take m ts ≡ slice_range ts 0 m
 at_start ts m = let e : m ≡ m - 0 = omega arith in ap (λ (n : ℕ). take n ts) e
 
 module _ {A : Type 0} {g f : Terminal → Bool} {P : Tokens → A → Type 0} {p : Reader A} (good : Every g f P p) where

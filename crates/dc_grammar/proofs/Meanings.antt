@@ -47,7 +47,7 @@ symbol_postfix w v y [] h c = (expr (start_of w) (e.Symbol y), rw (empty v [] c 
     empty v ss g.no_suffixes eq = refl
     empty v ss (g.suffixes p h) eq = absurd cc
 
-named_expr : (w1 w2 w3 : Tokens) (y : Symbol) (ys : List Symbol) (ts : List Bracket) → IsSymbol w1 y → MoreSymbols w2 ys → AreBrackets w3 ts → (x : Expr) × IsExpr ((w1 ++ w2) ++ w3) x
+pub named_expr : (w1 w2 w3 : Tokens) (y : Symbol) (ys : List Symbol) (ts : List Bracket) → IsSymbol w1 y → MoreSymbols w2 ys → AreBrackets w3 ts → (x : Expr) × IsExpr ((w1 ++ w2) ++ w3) x
 named_expr w1 w2 w3 y ys ts h c f =
     let r = bracket_suffixes w3 ts f in
     let q = member_suffixes w2 ys c w3 r.0 r.1 in
@@ -59,7 +59,7 @@ forward w y (g.value {x = x} h) = inl (x, refl, h)
 forward w y (g.of_type {w1 = w1} {w2 = w2} {x = z} {ts = ts} h c) =
     inr (type_tree (start_of (w1 ++ w2)) z ts, refl, g.type (g.plain h) c, λ x is. let clash : a.Value x ≡ a.OfType (type_tree (start_of (w1 ++ w2)) z ts) = one_tree.argument (w1 ++ w2) (a.Value x) (a.OfType (type_tree (start_of (w1 ++ w2)) z ts)) (g.value is) (g.of_type h c) in absurd cc)
 
-back_type : (w : Tokens) (t : TypeTree) → IsType w t → ((x : Expr) → IsExpr w x → ⊥) → IsArgument w (a.OfType t)
+pub back_type : (w : Tokens) (t : TypeTree) → IsType w t → ((x : Expr) → IsExpr w x → ⊥) → IsArgument w (a.OfType t)
 back_type w t (g.type {w1 = w1} {w2 = w2} {x = z} {ts = ts} h c) never = go w1 z h never
   where
     go : (v : Tokens) (y : Base) → IsBase v y → ((x : Expr) → IsExpr (v ++ w2) x → ⊥) → IsArgument (v ++ w2) (a.OfType (type_tree (start_of (v ++ w2)) y ts))

@@ -1,5 +1,5 @@
 -- Each rule of the grammar is read, from symbols up to whole expressions.
-use Rattle.std.proofs.Common.{◌≡◌, ℕ, zero, suc, ◌≤◌, Bool, false, List, [], ◌∷◌, ◌++◌, length, None, refl, sym, ap, ◌∙◌, append_assoc, arith}
+use Rattle.std.proofs.Common.{◌≡◌, ℕ, zero, suc, ◌-◌, ◌≤◌, Bool, false, List, [], ◌∷◌, ◌++◌, length, None, refl, sym, ap, ◌∙◌, append_assoc, arith}
 use Rattle.dc_ast.specs.declared.expression.Expr.{Expr}
 use Rattle.dc_ast.specs.declared.expression.ExprKind.TheVariants as e
 use Rattle.dc_ast.specs.declared.expression.Suffix.{Suffix}
@@ -26,17 +26,17 @@ use Rattle.dc_grammar.proofs.Dotted.{Dotted, dotted_expr, dotted_conditional, do
 use Rattle.dc_grammar.proofs.Arguments.{Inner, id_good, word_good, property_good, next_name_good, one_value_good, one_basic_good, bracket_good, plain_base_good, argument_good}
 
 module _ (n : ℕ) (inner : Level → Reader Expr) (i : Inner n inner) where
-  next_argument_good : Good n after_expr (is k.Comma) (FNext IsArgument) (spec.next_argument inner)
+  next_argument_good : Good (n - 2) after_expr (is k.Comma) (FNext IsArgument) (spec.next_argument inner)
   unfolding spec.next_argument same_terminal
-  next_argument_good = image (λ z. z.1) (seq (mark_good n k.Comma) (argument_good n inner i) (omega arith) refl)
+  next_argument_good = image (λ z. z.1) (seq (mark_good (n - 2) k.Comma) (argument_good n inner i) (omega arith) refl)
 
-  arguments_good : Good n (or after_expr (is k.Comma)) begins_argument (FList IsArgument) (spec.arguments inner)
+  arguments_good : Good (n - 2) (or after_expr (is k.Comma)) begins_argument (FList IsArgument) (spec.arguments inner)
   unfolding spec.arguments same_terminal
   arguments_good = narrow (image (λ z. z.0 ∷ z.1) (seq_loose (argument_good n inner i) (repeated next_argument_good refl) (omega arith) refl)) (or after_expr (is k.Comma)) begins_argument refl refl
 
-  in_parens_good : Good n none (is k.LeftParen) FInParens (spec.in_parens inner)
+  in_parens_good : Good (n - 1) none (is k.LeftParen) FInParens (spec.in_parens inner)
   unfolding spec.in_parens spec.some_arguments same_terminal
-  in_parens_good = image (λ z. z.1.0) (seq (mark_good n k.LeftParen) (loose_seq (loose_image or_empty (loose_maybe arguments_good)) (mark_good n k.RightParen) refl) (omega arith) refl)
+  in_parens_good = image (λ z. z.1.0) (seq (mark_good (n - 1) k.LeftParen) (loose_seq (loose_image or_empty (loose_maybe arguments_good)) (mark_good (n - 2) k.RightParen) refl) (omega arith) refl)
 
   template_arguments_same : (ts : Tokens) → spec.template_arguments inner ts ≡ (either (spec.in_parens inner) (either spec.one_value spec.one_basic)) ts
   unfolding spec.template_arguments spec.in_parens spec.one_value spec.one_basic spec.single same_terminal
@@ -51,9 +51,9 @@ module _ (n : ℕ) (inner : Level → Reader Expr) (i : Inner n inner) where
       go k.Character eq = rw eq (sym (or_none _))
       go _ eq = rw eq refl
 
-  template_arguments_good : Good n none begins_template_arguments AreTemplateArguments (spec.template_arguments inner)
+  template_arguments_good : Good (n - 1) none begins_template_arguments AreTemplateArguments (spec.template_arguments inner)
   unfolding same_terminal
-  template_arguments_good = rule (one_of in_parens_good (one_of (one_value_good n) (one_basic_good n) refl) refl) none begins_template_arguments AreTemplateArguments (spec.template_arguments inner) template_arguments_same template_arguments_into template_arguments_back refl refl
+  template_arguments_good = rule (one_of in_parens_good (one_of (one_value_good (n - 1)) (one_basic_good (n - 1)) refl) refl) none begins_template_arguments AreTemplateArguments (spec.template_arguments inner) template_arguments_same template_arguments_into template_arguments_back refl refl
 
   symbol_at : (m : ℕ) → m ≤ suc n → Good m (is k.Not) (is k.Name) IsSymbol (spec.symbol_read inner)
   unfolding spec.symbol_read spec.instance_end same_terminal
@@ -146,7 +146,7 @@ module _ (n : ℕ) (inner : Level → Reader Expr) (i : Inner n inner) where
 
   traits_good : Good (suc n) none (is k.Traits) FTraits (spec.traits inner)
   unfolding spec.traits same_terminal
-  traits_good = image (λ z. e.Traits z.1.1.0 z.1.1.1.1.0) (seq (mark_good (suc n) k.Traits) (seq (mark_good n k.LeftParen) (seq (id_good n) (seq (mark_good n k.Comma) (seq arguments_good (mark_good n k.RightParen) (omega arith) refl) (omega arith) refl) (omega arith) refl) (omega arith) refl) (omega arith) refl)
+  traits_good = image (λ z. e.Traits z.1.1.0 z.1.1.1.1.0) (seq (mark_good (suc n) k.Traits) (seq (mark_good n k.LeftParen) (seq (id_good n) (seq (mark_good (n - 1) k.Comma) (seq arguments_good (mark_good n k.RightParen) (omega arith) refl) (omega arith) refl) (omega arith) refl) (omega arith) refl) (omega arith) refl)
 
   assert_good : Good (suc n) none (is k.Assert) FAssert (spec.assert inner)
   unfolding spec.assert same_terminal

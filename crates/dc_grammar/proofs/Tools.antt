@@ -118,7 +118,7 @@ prefer {A} {n} {gP} {fP} {gQ} {fQ} {P} {Q} {p} {q} gp gq less over = record {
 abbrev pub Placed : {A B : Type 0} → (ℕ → A → B) → (Tokens → A → Type 0) → Tokens → B → Type 0
 Placed {A} f P ts y = (x : A) × P ts x × (f (start_of ts) x ≡ y)
 
-start_on : {first : Terminal → Bool} (front rest : Tokens) → Begins first front → start_of (front ++ rest) ≡ start_of front
+pub start_on : {first : Terminal → Bool} (front rest : Tokens) → Begins first front → start_of (front ++ rest) ≡ start_of front
 start_on front rest b = rw b.parts refl
 
 pub placed : {A B : Type 0} {n : ℕ} {g f : Terminal → Bool} {P : Tokens → A → Type 0} {p : Reader A} (to : ℕ → A → B) → Good n g f P p → Good n g f (Placed to P) (from_start to p)

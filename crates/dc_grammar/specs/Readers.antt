@@ -25,9 +25,10 @@ use Rattle.dc_grammar.specs.declared.level.Level.{Level}
 use Rattle.dc_grammar.specs.declared.level.Level.TheVariants as l
 use Rattle.dc_grammar.specs.declared.terminal.Terminal.{Terminal}
 use Rattle.dc_grammar.specs.declared.terminal.Terminal.TheVariants as k
-use Rattle.dc_grammar.specs.Terminals.{ahead, same_terminal, basic_type, unary_operator, multiplies, adds, shifts, compares, bit_and_operator, bit_xor_operator, bit_or_operator, and_operator, or_operator, assign_operator, is_relation}
+use Rattle.dc_grammar.specs.Brackets.{behind_parens, names_member}
+use Rattle.dc_grammar.specs.Terminals.{ahead, basic_type, unary_operator, multiplies, adds, shifts, compares, bit_and_operator, bit_xor_operator, bit_or_operator, and_operator, or_operator, assign_operator, is_relation}
 use Rattle.dc_grammar.specs.Trees.{expr, step, symbol, type_tree, is_tree, is_test, name_of, spelling_of}
-use Rattle.dc_grammar.specs.Reading.{Outcome, Reader, mark, named, means, both, either, ◌<$>◌, maybe, many, from_start, nothing}
+use Rattle.dc_grammar.specs.Reading.{Reader, mark, named, means, both, either, ◌<$>◌, maybe, many, from_start, nothing}
 
 abbrev pub id : Reader Name
 id = named name_of k.Name
@@ -174,13 +175,12 @@ module _ (inner : Level → Reader Expr) where
   abbrev pub value_or_type : Reader Argument
   value_or_type = either (a.Value <$> whole_inner) (a.OfType <$> plain_type)
 
-  -- with what was read up to the `)` of a `typeof`
-  abbrev pub behind_type_of : Outcome Base → Reader Argument
-  behind_type_of (Some p) ts = if same_terminal (ahead p.1) k.Dot then value_or_type ts else (a.OfType <$> plain_type) ts
-  behind_type_of None ts = None
+  -- what stands behind the `)` of a `typeof` says what it is, so that nothing is read twice
+  abbrev pub type_of_argument : Reader Argument
+  type_of_argument = λ ts. if names_member (behind_parens ts) then (a.Value <$> whole_inner) ts else (a.OfType <$> plain_type) ts
 
   abbrev pub argument_by : Terminal → Reader Argument
-  argument_by k.TypeOf = λ ts. behind_type_of (type_of ts) ts
+  argument_by k.TypeOf = type_of_argument
   argument_by _ = value_or_type
 
   unfoldable pub argument : Reader Argument

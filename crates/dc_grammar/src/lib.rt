@@ -1,6 +1,8 @@
-//! The grammar of expressions and types: what is a tree of which tokens, and what its readers promise.
+//! The grammar: what is a tree of which tokens, and what its readers promise.
 #![tactic(auto)]
 
+mod attribute;
+mod bracket;
 mod law;
 mod level;
 mod levels;
@@ -13,7 +15,14 @@ mod terminal;
 #[cfg(test)]
 mod tests;
 
-pub use law::{expr_first, one_tree, past_exactly};
+pub use attribute::{
+    AT_WORDS, at_word, at_word_sign, attribute_word, attribute_word_sign, storage, storage_sign,
+    visibility, visibility_sign,
+};
+pub use bracket::{behind_parens, names_member};
+pub use law::{
+    expr_first, lists_divide, nearest_if, one_item, one_tree, past_exactly, variable_first,
+};
 pub use level::Level;
 pub use levels::{Effect, first_outside, first_past, nesting};
 pub use miss::Miss;
