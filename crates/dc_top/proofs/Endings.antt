@@ -8,7 +8,7 @@ use Rattle.dc_edge.specs.Causes.{Rose}
 use Rattle.dc_edge.specs.Library.{FileMap, Lacks, MayHold}
 use Rattle.dc_edge.specs.Sink.{AppendsFront}
 use Rattle.dc_edge.proofs.Puts.{kept_front}
-use Rattle.dc_tree.specs.declared.tree.Stmt.{Stmt}
+use Rattle.dc_tree.specs.declared.sums.SumStmt.{SumStmt}
 use Rattle.dc_top.specs.Grammar.{IsProgramOf}
 use Rattle.dc_top.specs.Answers.{output_of, IsRun, IsRefused, LacksFile, ReportsFront, Answers, IsOrFails, Follows}
 use Rattle.dc_top.proofs.Options.{some_same, none_some}
@@ -34,19 +34,19 @@ not_there None file text lacks holds = lacks
 not_there (Some files) file text lacks holds = none_some text (sym lacks ∙ holds)
 
 -- the program of a text is also that of an equal text of an equal file
-moved : (file file' text text' : List ℕ) (body : List Stmt) → file ≡ file' → text ≡ text' → IsProgramOf file text body → IsProgramOf file' text' body
+moved : (file file' text text' : List ℕ) (body : List SumStmt) → file ≡ file' → text ≡ text' → IsProgramOf file text body → IsProgramOf file' text' body
 moved file file' text text' body p q is = subst (λ t. IsProgramOf file' t body) q (subst (λ f. IsProgramOf f text body) p is)
 
 held : (told : Option FileMap) (file file' text : List ℕ) → file ≡ file' → MayHold told file text → MayHold told file' text
 held told file file' text p holds = subst (λ f. MayHold told f text) p holds
 
-one_run : (job : Option (List ℕ)) (told : Option FileMap) (a b : List Stmt) → IsSome told → IsRun job told a → IsRun job told b → a ≡ b
+one_run : (job : Option (List ℕ)) (told : Option FileMap) (a b : List SumStmt) → IsSome told → IsRun job told a → IsRun job told b → a ≡ b
 one_run job told a b some p q =
     let file = same_file job p.file q.file p.of_job q.of_job in
     let text = one_text told q.file p.text q.text some (held told p.file q.file p.text file p.read) q.read in
     one_program q.file q.text a b (moved p.file q.file p.text q.text a file text p.program) q.program
 
-not_both : (job : Option (List ℕ)) (told : Option FileMap) (line : List ℕ) (body : List Stmt) → IsSome told → IsRefused job told line → IsRun job told body → ⊥
+not_both : (job : Option (List ℕ)) (told : Option FileMap) (line : List ℕ) (body : List SumStmt) → IsSome told → IsRefused job told line → IsRun job told body → ⊥
 not_both job told line body some p q =
     let file = same_file job q.file p.file q.of_job p.of_job in
     let text = one_text told p.file q.text p.text some (held told q.file p.file q.text file q.read) p.read in
@@ -63,7 +63,7 @@ module _ (job : Option (List ℕ)) (told : Option FileMap) (before now : ℕ) (o
   Is result = Answers job told before now result out out' report report'
 
   module _ (some : IsSome told) where
-    pub run_says : (result : Status) → Is result → (body : List Stmt) → IsRun job told body → (result ≡ status.ReadFault → ⊥) → Follows body result out out'
+    pub run_says : (result : Status) → Is result → (body : List SumStmt) → IsRun job told body → (result ≡ status.ReadFault → ⊥) → Follows body result out out'
     run_says status.Usage a body run read = absurd (no_job_here job run.file a.1.due.no_job run.of_job)
     run_says status.Done a body run read = subst (λ b. Appends out out' (output_of b)) (one_run job told a.0.body body some a.0.run run) a.0.took
     run_says status.Refused a body run read = absurd (not_both job told a.1.line body some a.1.due run)
@@ -86,7 +86,7 @@ pub read_says : (job : Option (List ℕ)) (told : Option FileMap) (result : Stat
     (Rose before now → ⊥) → (LacksFile job told → ⊥) → result ≡ status.ReadFault → ⊥
 read_says job told result before now cause rose lacks e = elim (cause e) [ inl r ↦ rose r | inr l ↦ lacks l ]
 
-pub run_there : (job : Option (List ℕ)) (told : Option FileMap) (body : List Stmt) → IsRun job told body → LacksFile job told → ⊥
+pub run_there : (job : Option (List ℕ)) (told : Option FileMap) (body : List SumStmt) → IsRun job told body → LacksFile job told → ⊥
 run_there job told body run l = lacks_or_held job told run.file run.text l run.of_job run.read
 
 pub refused_there : (job : Option (List ℕ)) (told : Option FileMap) (line : List ℕ) → IsRefused job told line → LacksFile job told → ⊥

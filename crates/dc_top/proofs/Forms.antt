@@ -5,14 +5,14 @@ use Rattle.std.specs.Str.{bytes_eq}
 use Rattle.std.specs.List.{list_all, flat_map}
 use Rattle.std.specs.Cmp.Lexicographic.{same_text}
 use Rattle.std.proofs.lemmas.List.Folds.{list_all-append}
-use Rattle.dc_tree.specs.declared.tree.Literal.{Literal}
-use Rattle.dc_tree.specs.declared.tree.Term.{Term}
-use Rattle.dc_tree.specs.declared.tree.Sign.{Sign}
-use Rattle.dc_tree.specs.declared.tree.Sign.TheVariants.{Plus, Minus}
-use Rattle.dc_tree.specs.declared.tree.Link.{Link}
-use Rattle.dc_tree.specs.declared.tree.Sum.{Sum}
-use Rattle.dc_tree.specs.declared.tree.Stmt.{Stmt}
-use Rattle.dc_tree.specs.declared.tree.Stmt.TheVariants.{Writeln}
+use Rattle.dc_tree.specs.declared.sums.Literal.{Literal}
+use Rattle.dc_tree.specs.declared.sums.Term.{Term}
+use Rattle.dc_tree.specs.declared.sums.Sign.{Sign}
+use Rattle.dc_tree.specs.declared.sums.Sign.TheVariants.{Plus, Minus}
+use Rattle.dc_tree.specs.declared.sums.Link.{Link}
+use Rattle.dc_tree.specs.declared.sums.Sum.{Sum}
+use Rattle.dc_tree.specs.declared.sums.SumStmt.{SumStmt}
+use Rattle.dc_tree.specs.declared.sums.SumStmt.TheVariants.{Writeln}
 use Rattle.dc_top.specs.Tokens.{Token}
 use Rattle.dc_top.specs.Grammar.{literal_token, factor_tokens, term_tokens, sign_token, link_tokens, sum_tokens, stmt_tokens, head_tokens, program_tokens, is_int_literal, term_literals, link_literals, stmt_literals, IsProgram}
 use Rattle.dc_top.specs.Reading.{◌>>=◌, pieces_at, word_at, literal_at, factor_at, term_at, sign_of, link_behind, link_at, sum_at, call_at, stmt_at, import_at, head_at, all_of, form_of}
@@ -172,7 +172,7 @@ sum_spelled ts sum rest e =
 
 -- ---- statements
 
-abbrev stmt_fits : Stmt → Bool
+abbrev stmt_fits : SumStmt → Bool
 stmt_fits (Writeln sum) = sum_fits sum
 
 call_tokens : Sum → List Token → List Token
@@ -182,7 +182,7 @@ call_read : (sum : Sum) (rest : List Token) → sum_fits sum ≡ true → call_a
 unfolding call_at word_at
 call_read sum rest fits = bind_some _ _ _ _ (sum_read sum (codes ";" ∷ rest) fits) refl
 
-call_spelled : (ts : List Token) (stmt : Stmt) (rest : List Token) → call_at ts ≡ Some (pair stmt rest) → (codes "writeln" ∷ ts ≡ stmt_tokens stmt ++ rest) × (stmt_fits stmt ≡ true)
+call_spelled : (ts : List Token) (stmt : SumStmt) (rest : List Token) → call_at ts ≡ Some (pair stmt rest) → (codes "writeln" ∷ ts ≡ stmt_tokens stmt ++ rest) × (stmt_fits stmt ≡ true)
 unfolding call_at
 call_spelled ts stmt rest e =
     let a = bind_ok (word_at (codes "(") ts) _ _ e in
@@ -199,13 +199,13 @@ call_spelled ts stmt rest e =
     ∙ ap (λ x. codes "writeln" ∷ codes "(" ∷ x) (sym (append_assoc (sum_tokens s.0.0) (codes ")" ∷ codes ";" ∷ []) d.0)) in
     (whole ∙ ap (λ r. stmt_tokens (Writeln s.0.0) ++ r) same.1 ∙ ap (λ st. stmt_tokens st ++ rest) same.0, subst (λ st. stmt_fits st ≡ true) same.0 sum.1)
 
-stmt_read : (stmt : Stmt) (rest : List Token) → stmt_fits stmt ≡ true → stmt_at (stmt_tokens stmt ++ rest) ≡ Some (Some (pair stmt rest))
+stmt_read : (stmt : SumStmt) (rest : List Token) → stmt_fits stmt ≡ true → stmt_at (stmt_tokens stmt ++ rest) ≡ Some (Some (pair stmt rest))
 unfolding stmt_at
 stmt_read (Writeln sum) rest fits =
     ap (λ x. option_map Some (call_at (codes "(" ∷ x))) (append_assoc (sum_tokens sum) (codes ")" ∷ codes ";" ∷ []) rest)
     ∙ ap (option_map Some) (call_read sum rest fits)
 
-stmt_spelled : (ts : List Token) (stmt : Stmt) (rest : List Token) → stmt_at ts ≡ Some (Some (pair stmt rest)) → (ts ≡ stmt_tokens stmt ++ rest) × (stmt_fits stmt ≡ true)
+stmt_spelled : (ts : List Token) (stmt : SumStmt) (rest : List Token) → stmt_at ts ≡ Some (Some (pair stmt rest)) → (ts ≡ stmt_tokens stmt ++ rest) × (stmt_fits stmt ≡ true)
 unfolding stmt_at
 stmt_spelled [] stmt rest e = absurd (let k : None ≡ Some (pair stmt rest) = some_same None (Some (pair stmt rest)) e in cc)
 stmt_spelled (t ∷ ts) stmt rest e = by (bytes_eq t (codes "writeln")) refl e
@@ -217,18 +217,18 @@ stmt_spelled (t ∷ ts) stmt rest e = by (bytes_eq t (codes "writeln")) refl e
         (ap (λ x. x ∷ ts) (same_text t (codes "writeln") (sym is)) ∙ s.0, s.1)
     by false is e = absurd (let k : None ≡ Some (pair stmt rest) = some_same None (Some (pair stmt rest)) e in cc)
 
-stmt_long : (stmt : Stmt) → 1 ≤ length (stmt_tokens stmt)
+stmt_long : (stmt : SumStmt) → 1 ≤ length (stmt_tokens stmt)
 stmt_long (Writeln sum) = omega arith
 
 stmts : IsPiece stmt_at stmt_tokens stmt_fits (λ ts. Unit {0})
 stmts = record { read = λ x rest fits f. stmt_read x rest fits; begins = λ x rest. tt; some = stmt_long; spelled = stmt_spelled }
 
-stmt_fits_is : (stmt : Stmt) → list_all is_int_literal (stmt_literals stmt) ≡ stmt_fits stmt
+stmt_fits_is : (stmt : SumStmt) → list_all is_int_literal (stmt_literals stmt) ≡ stmt_fits stmt
 stmt_fits_is (Writeln sum) =
     list_all-append is_int_literal (term_literals sum.first) (flat_map link_literals sum.rest)
     ∙ ap (λ b. term_fits sum.first && b) (list_all-flat_map is_int_literal link_literals sum.rest)
 
-all_fits_is : (body : List Stmt) → list_all is_int_literal (flat_map stmt_literals body) ≡ list_all stmt_fits body
+all_fits_is : (body : List SumStmt) → list_all is_int_literal (flat_map stmt_literals body) ≡ list_all stmt_fits body
 all_fits_is [] = refl
 all_fits_is (stmt ∷ body) =
     list_all-append is_int_literal (stmt_literals stmt) (flat_map stmt_literals body)
@@ -274,7 +274,7 @@ head_spelled ts rest e =
     ∙ ap (λ x. front (codes "void" ∷ codes "main" ∷ codes "(" ∷ x)) (word_spelled (codes ")") d.0 f.0 f.1)
     ∙ ap (λ x. front (codes "void" ∷ codes "main" ∷ codes "(" ∷ codes ")" ∷ x)) (word_spelled (codes "{") f.0 rest f.2)
 
-pub form_read : (tokens : List Token) (body : List Stmt) → IsProgram tokens body → form_of tokens ≡ Some body
+pub form_read : (tokens : List Token) (body : List SumStmt) → IsProgram tokens body → form_of tokens ≡ Some body
 unfolding form_of word_at
 form_read tokens body is =
     let fits : list_all stmt_fits body ≡ true = sym (all_fits_is body) ∙ is.literals in
@@ -282,11 +282,11 @@ form_read tokens body is =
     bind_some _ _ _ _ (ap head_at is.spelled ∙ head_read inside)
     (bind_some _ _ _ _ (pieces_read stmts body (codes "}" ∷ []) fits (end_no_stmt []) tt) refl)
 
-all_spelled : (body : List Stmt) (ts : List Token) (whole : List Stmt) → all_of body ts ≡ Some whole → (ts ≡ []) × (body ≡ whole)
+all_spelled : (body : List SumStmt) (ts : List Token) (whole : List SumStmt) → all_of body ts ≡ Some whole → (ts ≡ []) × (body ≡ whole)
 all_spelled body [] whole e = (refl, some_same body whole e)
 all_spelled body (t ∷ ts) whole e = absurd (none_some whole e)
 
-pub form_spelled : (tokens : List Token) (body : List Stmt) → form_of tokens ≡ Some body → IsProgram tokens body
+pub form_spelled : (tokens : List Token) (body : List SumStmt) → form_of tokens ≡ Some body → IsProgram tokens body
 unfolding form_of
 form_spelled tokens body e =
     let h = bind_ok (head_at tokens) _ _ e in

@@ -7,7 +7,7 @@ use Rattle.std.specs.Str.{all_ascii_digits}
 use Rattle.std.specs.Fmt.{decimal}
 use Rattle.std.proofs.lemmas.Fmt.{digits_decimal, digits_value-decimal, decimal-digits_value, decimal_nonempty, decimal_digit, first_decimal}
 use Rattle.std.proofs.lemmas.Str.Parse.{IsNumeralModel, FoldsDigits, numerals_by_fold, tells_all_ascii_digits}
-use Rattle.dc_tree.specs.declared.tree.Literal.{Literal}
+use Rattle.dc_tree.specs.declared.sums.Literal.{Literal}
 use Rattle.dc_top.specs.Tokens.{Token}
 use Rattle.dc_top.specs.Grammar.{literal_token, is_int, is_int_literal}
 use Rattle.dc_top.specs.Reading.{digits_from, number_of, literal_at}

@@ -10,8 +10,8 @@ use Rattle.dc_types.specs.Events.{printed}
 use Rattle.dc_edge.specs.Causes.{Rose}
 use Rattle.dc_edge.specs.Library.{FileMap, Lacks, MayHold}
 use Rattle.dc_edge.specs.Sink.{AppendsFront}
-use Rattle.dc_tree.specs.declared.tree.Stmt.{Stmt}
-use Rattle.dc_tree.specs.Meaning.{meaning}
+use Rattle.dc_tree.specs.declared.sums.SumStmt.{SumStmt}
+use Rattle.dc_tree.specs.Sums.{meaning}
 use Rattle.dc_top.specs.Names.{default_name}
 use Rattle.dc_top.specs.Grammar.{IsProgramOf}
 use Rattle.dc_top.specs.Reports.{usage_line, read_fault_line, refused_line}
@@ -21,11 +21,11 @@ use Rattle.dc_top.specs.declared.top.Plan.TheVariants as plan
 -- A job is the file that is to be run, if the words are one. The files may be told.
 
 -- the output of a program: what its meaning prints
-abbrev pub output_of : List Stmt → List ℕ
+abbrev pub output_of : List SumStmt → List ℕ
 output_of body = printed (meaning body)
 
 -- The job's file has a program with this body: some text has it, and where files are told that is the file's.
-pub record IsRun (job : Option (List ℕ)) (told : Option FileMap) (body : List Stmt) : Type 0 where
+pub record IsRun (job : Option (List ℕ)) (told : Option FileMap) (body : List SumStmt) : Type 0 where
   pub file : List ℕ
   pub text : List ℕ
   pub of_job : job ≡ Some file
@@ -43,7 +43,7 @@ pub record IsRefused (job : Option (List ℕ)) (told : Option FileMap) (line : L
   pub text : List ℕ
   pub of_job : job ≡ Some file
   pub read : MayHold told file text
-  pub none : (body : List Stmt) → IsProgramOf file text body → ⊥
+  pub none : (body : List SumStmt) → IsProgramOf file text body → ⊥
   pub line_is : line ≡ refused_line (text ∷ []) (refusal_of file)
 
 -- the words are no job, and this is the line that says so
@@ -67,13 +67,13 @@ pub record IsReadFault (job : Option (List ℕ)) (told : Option FileMap) (before
 
 -- `out` takes the whole output of the job's program
 pub record Prints (job : Option (List ℕ)) (told : Option FileMap) (old new : Option (List ℕ)) : Type 0 where
-  pub body : List Stmt
+  pub body : List SumStmt
   pub run : IsRun job told body
   pub took : Appends old new (output_of body)
 
 -- `out` takes a front of the output of the job's program
 pub record PrintsFront (job : Option (List ℕ)) (told : Option FileMap) (old new : Option (List ℕ)) : Type 0 where
-  pub body : List Stmt
+  pub body : List SumStmt
   pub run : IsRun job told body
   pub took : AppendsFront old new (output_of body)
 
@@ -113,7 +113,7 @@ abbrev pub IsOrFails : Status → Status → Type 0
 IsOrFails wanted result = (result ≡ wanted) ⊎ ((result ≡ status.WriteFault) ⊎ (result ≡ status.NoMemory))
 
 -- under this program the status is Done, where nothing fails, and `out` takes its output; after a fault, a front of it
-abbrev pub Follows : List Stmt → Status → Option (List ℕ) → Option (List ℕ) → Type 0
+abbrev pub Follows : List SumStmt → Status → Option (List ℕ) → Option (List ℕ) → Type 0
 Follows body status.Done out out' = Appends out out' (output_of body)
 Follows body status.WriteFault out out' = AppendsFront out out' (output_of body)
 Follows body status.NoMemory out out' = AppendsFront out out' (output_of body)

@@ -6,14 +6,14 @@
 use Rattle.std.specs.Prelude.{◌≡◌, ℕ, Bool, true, false, nat_le, List, [], ◌∷◌, ◌++◌, ℤ, pos, negsuc, codes, unsigned_abs}
 use Rattle.std.specs.List.{list_all, flat_map}
 use Rattle.std.specs.Fmt.{decimal}
-use Rattle.dc_tree.specs.declared.tree.Literal.{Literal}
-use Rattle.dc_tree.specs.declared.tree.Term.{Term}
-use Rattle.dc_tree.specs.declared.tree.Sign.{Sign}
-use Rattle.dc_tree.specs.declared.tree.Sign.TheVariants.{Plus, Minus}
-use Rattle.dc_tree.specs.declared.tree.Link.{Link}
-use Rattle.dc_tree.specs.declared.tree.Sum.{Sum}
-use Rattle.dc_tree.specs.declared.tree.Stmt.{Stmt}
-use Rattle.dc_tree.specs.declared.tree.Stmt.TheVariants.{Writeln}
+use Rattle.dc_tree.specs.declared.sums.Literal.{Literal}
+use Rattle.dc_tree.specs.declared.sums.Term.{Term}
+use Rattle.dc_tree.specs.declared.sums.Sign.{Sign}
+use Rattle.dc_tree.specs.declared.sums.Sign.TheVariants.{Plus, Minus}
+use Rattle.dc_tree.specs.declared.sums.Link.{Link}
+use Rattle.dc_tree.specs.declared.sums.Sum.{Sum}
+use Rattle.dc_tree.specs.declared.sums.SumStmt.{SumStmt}
+use Rattle.dc_tree.specs.declared.sums.SumStmt.TheVariants.{Writeln}
 use Rattle.dc_top.specs.Names.{default_name, is_identifier}
 use Rattle.dc_top.specs.Tokens.{Token, Reads, behind_mark}
 
@@ -37,7 +37,7 @@ link_tokens link = sign_token link.sign ∷ term_tokens link.term
 abbrev pub sum_tokens : Sum → List Token
 sum_tokens sum = term_tokens sum.first ++ flat_map link_tokens sum.rest
 
-abbrev pub stmt_tokens : Stmt → List Token
+abbrev pub stmt_tokens : SumStmt → List Token
 stmt_tokens (Writeln sum) = codes "writeln" ∷ codes "(" ∷ (sum_tokens sum ++ (codes ")" ∷ codes ";" ∷ []))
 
 abbrev pub head_tokens : List Token
@@ -45,7 +45,7 @@ head_tokens =
     codes "import" ∷ codes "std" ∷ codes "." ∷ codes "stdio" ∷ codes ";"
     ∷ codes "void" ∷ codes "main" ∷ codes "(" ∷ codes ")" ∷ codes "{" ∷ []
 
-abbrev pub program_tokens : List Stmt → List Token
+abbrev pub program_tokens : List SumStmt → List Token
 program_tokens body = head_tokens ++ (flat_map stmt_tokens body ++ (codes "}" ∷ []))
 
 -- a literal is from 0 to 2147483647
@@ -62,16 +62,16 @@ term_literals term = term.first ∷ term.rest
 abbrev pub link_literals : Link → List Literal
 link_literals link = term_literals link.term
 
-abbrev pub stmt_literals : Stmt → List Literal
+abbrev pub stmt_literals : SumStmt → List Literal
 stmt_literals (Writeln sum) = term_literals sum.first ++ flat_map link_literals sum.rest
 
 -- These tokens are those of a program with this body.
-pub record IsProgram (tokens : List Token) (body : List Stmt) : Type 0 where
+pub record IsProgram (tokens : List Token) (body : List SumStmt) : Type 0 where
   pub spelled : tokens ≡ program_tokens body
   pub literals : list_all is_int_literal (flat_map stmt_literals body) ≡ true
 
 -- The file has the form: it is named as a module, and its text spells a program with this body.
-pub record IsProgramOf (file text : List ℕ) (body : List Stmt) : Type 0 where
+pub record IsProgramOf (file text : List ℕ) (body : List SumStmt) : Type 0 where
   pub named : is_identifier (default_name file) ≡ true
   pub tokens : List Token
   pub read : Reads (behind_mark text) tokens

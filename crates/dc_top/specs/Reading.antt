@@ -2,14 +2,14 @@
 use Rattle.std.specs.Prelude.{◌≡◌, ℕ, ◌+◌, ◌-◌, ◌*◌, zero, suc, ◌&&◌, ◌==◌, nat_le, List, [], ◌∷◌, ◌++◌, length, Option, Some, None, option_map, Result, Ok, Err, pos, if◌then◌else◌, codes}
 use Rattle.std.specs.Str.{bytes_eq}
 use Rattle.std.specs.Char.{is_ascii_digit}
-use Rattle.dc_tree.specs.declared.tree.Literal.{Literal}
-use Rattle.dc_tree.specs.declared.tree.Term.{Term}
-use Rattle.dc_tree.specs.declared.tree.Sign.{Sign}
-use Rattle.dc_tree.specs.declared.tree.Sign.TheVariants.{Plus, Minus}
-use Rattle.dc_tree.specs.declared.tree.Link.{Link}
-use Rattle.dc_tree.specs.declared.tree.Sum.{Sum}
-use Rattle.dc_tree.specs.declared.tree.Stmt.{Stmt}
-use Rattle.dc_tree.specs.declared.tree.Stmt.TheVariants.{Writeln}
+use Rattle.dc_tree.specs.declared.sums.Literal.{Literal}
+use Rattle.dc_tree.specs.declared.sums.Term.{Term}
+use Rattle.dc_tree.specs.declared.sums.Sign.{Sign}
+use Rattle.dc_tree.specs.declared.sums.Sign.TheVariants.{Plus, Minus}
+use Rattle.dc_tree.specs.declared.sums.Link.{Link}
+use Rattle.dc_tree.specs.declared.sums.Sum.{Sum}
+use Rattle.dc_tree.specs.declared.sums.SumStmt.{SumStmt}
+use Rattle.dc_tree.specs.declared.sums.SumStmt.TheVariants.{Writeln}
 use Rattle.dc_top.specs.Names.{default_name, is_identifier}
 use Rattle.dc_top.specs.Tokens.{Token}
 use Rattle.dc_top.specs.Lexing.{tokens_of}
@@ -106,7 +106,7 @@ sum_at tokens = do
   Some (record { first = first.0; rest = rest.0 }, rest.1)
 
 -- `( Sum ) ;`
-unfoldable pub call_at : List Token → Option (Stmt × List Token)
+unfoldable pub call_at : List Token → Option (SumStmt × List Token)
 call_at tokens = do
   inside ← word_at (codes "(") tokens
   sum ← sum_at inside
@@ -115,7 +115,7 @@ call_at tokens = do
   Some (Writeln sum.0, rest)
 
 -- `writeln ( Sum ) ;`
-unfoldable pub stmt_at : PieceReader Stmt
+unfoldable pub stmt_at : PieceReader SumStmt
 stmt_at [] = Some None
 stmt_at (t ∷ ts) = if bytes_eq t (codes "writeln") then option_map Some (call_at ts) else Some None
 
@@ -139,11 +139,11 @@ head_at tokens = do
   word_at (codes "{") e
 
 -- the statements, where nothing is left
-abbrev pub all_of : List Stmt → List Token → Option (List Stmt)
+abbrev pub all_of : List SumStmt → List Token → Option (List SumStmt)
 all_of body [] = Some body
 all_of body (t ∷ ts) = None
 
-unfoldable pub form_of : List Token → Option (List Stmt)
+unfoldable pub form_of : List Token → Option (List SumStmt)
 form_of tokens = do
   inside ← head_at tokens
   body ← pieces_at stmt_at inside
@@ -151,5 +151,5 @@ form_of tokens = do
   all_of body.0 rest
 
 -- the body of a file, where its name and its text have the form
-unfoldable pub program_of : List ℕ → List ℕ → Option (List Stmt)
+unfoldable pub program_of : List ℕ → List ℕ → Option (List SumStmt)
 program_of file text = if is_identifier (default_name file) then (tokens_of text >>= form_of) else None

@@ -1,6 +1,6 @@
 // The values of sums.
 ghost use Rattle.std.specs.Prelude.{◌≡◌};
-ghost use Rattle.dc_tree.specs.Meaning.{times, term_value, added, plus, sum_value};
+ghost use Rattle.dc_tree.specs.Sums.{times, term_value, added, plus, sum_value};
 
 use dc_tree::{Link, Literal, Sign, Sum, Term};
 

@@ -4,7 +4,7 @@ ghost use Rattle.dc_top.specs.Reading.{Gives, pieces_at, word_at, digits_from, n
 
 use crate::names::{default_name, is_identifier};
 use crate::tokens::tokens;
-use dc_tree::{Link, Literal, Sign, Stmt, Stmts, Sum, Term};
+use dc_tree::{Link, Literal, Sign, Sum, SumStmt, SumStmts, Term};
 use dc_types::{Items, Text};
 use std::alloc::{AllocError, AllocFailed, Global};
 
@@ -211,18 +211,18 @@ fn sum(alloc: Global, tokens: &[Text]) -> Result<(Sum, &[Text]), FormFault>
 
 /// `( Sum ) ;`
 #[tactic(auto, unfolding(crate::specs::Reading::call_at))]
-fn call(alloc: Global, tokens: &[Text]) -> Result<(Stmt, &[Text]), FormFault>
+fn call(alloc: Global, tokens: &[Text]) -> Result<(SumStmt, &[Text]), FormFault>
     ensures { Gives (λ x. (x.0, x.1.now)) result (call_at tokens.now) }
 {
     let tokens = word(tokens, b"(")?;
     let (sum, tokens) = sum(alloc, tokens)?;
     let tokens = word(tokens, b")")?;
     let tokens = word(tokens, b";")?;
-    Ok((Stmt::Writeln(sum), tokens))
+    Ok((SumStmt::Writeln(sum), tokens))
 }
 
 /// `writeln ( Sum ) ;`
-impl Piece for Stmt {
+impl Piece for SumStmt {
     ghost use Rattle.dc_top.specs.Reading.{stmt_at};
 
     ghost piece = { stmt_at };
@@ -267,7 +267,7 @@ fn head(tokens: &[Text]) -> Result<&[Text], FormFault>
 
 /// The statements of the whole program.
 #[tactic(auto, unfolding(crate::specs::Reading::form_of))]
-fn form(alloc: Global, tokens: &[Text]) -> Result<Stmts, FormFault>
+fn form(alloc: Global, tokens: &[Text]) -> Result<SumStmts, FormFault>
     ensures { Gives (λ body. body) result (form_of tokens.now) }
 {
     let tokens = head(tokens)?;
@@ -281,7 +281,7 @@ fn form(alloc: Global, tokens: &[Text]) -> Result<Stmts, FormFault>
 
 /// The body of a file, where its name and its text have the form.
 #[tactic(auto, unfolding(crate::specs::Reading::program_of))]
-pub fn program(alloc: Global, file: &[u8], text: &[u8]) -> Result<Stmts, FormFault>
+pub fn program(alloc: Global, file: &[u8], text: &[u8]) -> Result<SumStmts, FormFault>
     ensures { Gives (λ body. body) result (program_of file.now text.now) }
 {
     if !is_identifier(default_name(file)) {

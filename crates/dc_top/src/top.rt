@@ -1,6 +1,6 @@
 // The one call that does all.
 ghost use Rattle.std.specs.Prelude.{◌≡◌, ◌⊎◌, ℕ, List, IfOk, IsSome, None, vec_len};
-ghost use Rattle.dc_tree.specs.declared.tree.Stmt.{Stmt};
+ghost use Rattle.dc_tree.specs.declared.sums.SumStmt.{SumStmt};
 ghost use Rattle.std.specs.Io.KnownBytes.{Keeps};
 ghost use Rattle.dc_edge.specs.Causes.{Rose, CountsFaults};
 ghost use Rattle.dc_top.specs.Words.{texts_of, job_of};
@@ -12,7 +12,7 @@ use crate::print::print_all;
 use crate::report::{read_fault_line, refused_line, usage_line};
 use crate::words::job;
 use dc_edge::{LibFault, Library, Probe, Sink, SinkFault};
-use dc_tree::Stmts;
+use dc_tree::SumStmts;
 use dc_types::{Items, NoMemory, Place, Refusal, Status, Step, Text};
 use std::alloc::{AllocError, Global};
 use std::slice;
@@ -25,7 +25,7 @@ pub enum Plan {
     ReadFault(Text),
     /// The line that tells the refusal.
     Refused(Text),
-    Run(Stmts),
+    Run(SumStmts),
 }
 
 /// The refusal of a text without the form: rule 2 at its first byte.
@@ -149,7 +149,7 @@ pub fn dpc<L: Library, S: Sink, R: Sink>(
 
     // Where the files are told and no read failed: a file with a program is run, to its whole output unless a put failed
     // or memory was wanted, and a file without one is refused.
-    ensures runs { IsSome (L.told lib.old) → (Rose (L.faults lib.old) (L.faults lib.new) → ⊥) → (body : List Stmt) → IsRun (job_of (texts_of words.now.items)) (L.told lib.old) body → Follows body result (S.taken out.old) (S.taken out.new) }
+    ensures runs { IsSome (L.told lib.old) → (Rose (L.faults lib.old) (L.faults lib.new) → ⊥) → (body : List SumStmt) → IsRun (job_of (texts_of words.now.items)) (L.told lib.old) body → Follows body result (S.taken out.old) (S.taken out.new) }
     ensures refuses { IsSome (L.told lib.old) → (Rose (L.faults lib.old) (L.faults lib.new) → ⊥) → (line : List ℕ) → IsRefused (job_of (texts_of words.now.items)) (L.told lib.old) line → IsOrFails Status.Refused result }
 
     ensures told { L.told lib.new ≡ L.told lib.old }

@@ -1,6 +1,16 @@
 //! Programs whose names and types are known, and what they mean.
 #![tactic(auto)]
 
+mod body;
+mod laws;
+mod stmt;
+mod sums;
 mod tree;
+mod weight;
 
-pub use tree::{Link, Literal, Sign, Stmt, Stmts, Sum, Term};
+pub use body::{Bodies, Body, Starts};
+pub use laws::ticks_bound;
+pub use stmt::{Stmt, Stmts};
+pub use sums::{Link, Literal, Sign, Sum, SumStmt, SumStmts, Term};
+pub use tree::{Tree, Trees, Variable, Variables};
+pub use weight::{TOO_HEAVY, body_weight, tree_weight};

@@ -1,45 +1,54 @@
-// The trees of programs of sums.
-use dc_types::Items;
+// Resolved expressions.
+use dc_types::{BinOp, CmpOp, Const, Items, Kind, Place, Ty, Types};
+use sqlite_items::{Boxed, Items as Children};
 
-/// A literal of type `int` (D specification, "Lexical", "Integer Literals").
-#[derive(Clone, Copy, Debug, PartialEq, Eq)]
-pub struct Literal {
-    pub value: i32,
+/// A variable of a function, a parameter among them: where it is declared, and its type.
+#[derive(Debug, Drop, PartialEq, Eq)]
+pub struct Variable {
+    pub place: Place,
+    pub ty: Ty,
 }
 
-/// A product: a chain of `*` (D specification, "Expressions", "Mul Expressions").
+pub type Variables = Items<Variable>;
+
+/// A resolved expression (D specification, "Expressions"). The first place in each form is where it begins.
+#[cycle(tree)]
 #[derive(Debug, Drop)]
-pub struct Term {
-    pub first: Literal,
-    pub rest: Items<Literal>,
+pub enum Tree {
+    /// A literal, or a name that stands for a constant.
+    Constant(Place, Const),
+    /// What a variable holds.
+    Local(Place, Variable),
+    /// `v = e`, whose value is the one that is stored.
+    Assign(Place, Variable, Boxed<Tree>),
+    /// An operator on two numbers of the kind. The count of a shift is a `long`.
+    Binary(Place, BinOp, Kind, Boxed<Tree>, Boxed<Tree>),
+    /// A comparison of two numbers of the kind, which is a `bool`.
+    Compare(Place, CmpOp, Kind, Boxed<Tree>, Boxed<Tree>),
+    /// A call of the function that is declared at the second place, the type of its result, and the arguments.
+    Call(Place, Place, Ty, Children<Tree>),
+    /// `write` of arguments of these types, or `writeln`, which prints a line feed behind them.
+    Print(Place, Types, Children<Tree>, bool),
 }
 
-/// An operator between the terms of a sum.
-#[derive(Clone, Copy, Debug, PartialEq, Eq)]
-pub enum Sign {
-    Plus,
-    Minus,
-}
+pub type Trees = Items<Tree>;
 
-/// An operator and the term behind it.
-#[derive(Debug, Drop)]
-pub struct Link {
-    pub sign: Sign,
-    pub term: Term,
-}
+impl Tree {
+    ghost use Rattle.std.specs.Prelude.{◌≡◌};
+    ghost use Rattle.dc_tree.specs.Nodes.{place_of};
 
-/// A sum: a chain of `+` and `-` (D specification, "Expressions", "Add Expressions").
-#[derive(Debug, Drop)]
-pub struct Sum {
-    pub first: Term,
-    pub rest: Items<Link>,
+    /// Where the expression begins.
+    pub fn place(&self) -> &Place
+        ensures { result.now ≡ place_of self.now }
+    {
+        match self {
+            Tree::Constant(place, _) => place,
+            Tree::Local(place, _) => place,
+            Tree::Assign(place, _, _) => place,
+            Tree::Binary(place, _, _, _, _) => place,
+            Tree::Compare(place, _, _, _, _) => place,
+            Tree::Call(place, _, _, _) => place,
+            Tree::Print(place, _, _, _) => place,
+        }
+    }
 }
-
-/// A statement of `main`.
-#[derive(Debug, Drop)]
-pub enum Stmt {
-    /// `writeln` of one sum.
-    Writeln(Sum),
-}
-
-pub type Stmts = Items<Stmt>;

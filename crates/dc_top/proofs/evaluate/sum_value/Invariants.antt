@@ -1,6 +1,6 @@
 use Rattle.std.proofs.Common.{◌≡◌, drop}
 use Rattle.std.specs.List.{fold}
-use Rattle.dc_tree.specs.Meaning.{plus, sum_value}
+use Rattle.dc_tree.specs.Sums.{plus, sum_value}
 use Rattle.dc_top.proofs.evaluate.sum_value.Given as goal
 
 abbrev pub invariant-loop-link : goal.invariant-loop-link

@@ -1,0 +1,12 @@
+pub mod Flow
+pub mod Stmts
+pub mod Leading
+pub mod Frames
+pub mod Calls
+pub mod Entries
+pub mod Tables
+pub mod Loops
+pub mod Made
+pub mod Joined
+pub mod PlaceEquality
+pub mod Numbering

@@ -1,0 +1,9 @@
+pub mod Steps
+pub mod Seams
+pub mod Words
+pub mod Locals
+pub mod Follow
+pub mod Ops
+pub mod Prints
+pub mod Exprs
+pub mod Lists

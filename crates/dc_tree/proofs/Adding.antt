@@ -1,0 +1,18 @@
+-- Weights of lists, one element on.
+use Rattle.std.proofs.Common.{◌≡◌, ℕ, zero, suc, ◌+◌, ◌<◌, List, [], ◌∷◌, length, map, take, get_or, ap, arith, min}
+use Rattle.dc_tree.specs.Weight.{sum}
+
+pub sum_more : {X : Type 0} (f : X → ℕ) (xs : List X) (i : ℕ) (d : X) → i < length xs → sum (map f (take (i + 1) xs)) ≡ sum (map f (take i xs)) + f (get_or xs i d)
+sum_more f [] i d h = absurd (omega arith)
+sum_more f (x ∷ xs) zero d h = omega arith
+sum_more f (x ∷ xs) (suc i) d h =
+    let k : suc i + 1 ≡ suc (i + 1) = omega arith in
+    let e = ap (λ k. sum (map f (take k (x ∷ xs)))) k in
+    omega (arith, e, sum_more f xs i d (omega arith))
+
+-- the weight so far, up to the limit, and one more
+pub sum_step : (X : Type 0) (f : X → ℕ) (xs : List X) (i w more new limit : ℕ) (x : X) → w ≡ min (sum (map f (take i xs))) limit → i < length xs → x ≡ get_or xs i x → more ≡ min (f x) limit → new ≡ min (w + more) limit → new ≡ min (sum (map f (take (i + 1) xs))) limit
+sum_step X f xs i w more new limit x e lt is m n =
+    let s = sum_more f xs i x lt in
+    let g = ap f is in
+    omega (arith, e, m, n, s, g)

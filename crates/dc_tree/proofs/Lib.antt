@@ -1,0 +1,4 @@
+pub mod Adding
+pub mod Lengthening
+pub mod Ticking
+pub mod Examples
