@@ -8,11 +8,18 @@ use sqlite_items::{Boxed, Items};
 /// A list of declarations.
 pub type Decls = Items<Declaration>;
 
-/// A module: its name where its first line gives one, and its declarations (D specification, "Modules").
+/// A module: the line that names it, where there is one, and its declarations (D specification, "Modules").
 #[derive(Drop)]
 pub struct ModuleTree {
-    pub name: Option<Path>,
+    pub line: Option<ModuleLine>,
     pub declarations: Decls,
+}
+
+/// `module a.b;`, and where it begins.
+#[derive(Drop)]
+pub struct ModuleLine {
+    pub at: u32,
+    pub name: Path,
 }
 
 /// A declaration, and where it begins, with the words before it (D specification, "Attributes").

@@ -9,7 +9,7 @@ use sqlite_items::{Boxed, Items};
 #[derive(Drop)]
 pub struct Expr {
     pub at: u32,
-    pub kind: ExprKind,
+    pub kind: Boxed<ExprKind>,
 }
 
 /// The forms of expressions.
@@ -27,35 +27,35 @@ pub enum ExprKind {
     Dollar,
     Symbol(Symbol),
     /// `(e)`
-    Paren(Boxed<Expr>),
+    Paren(Expr),
     /// `[a, b]`
     Array(Items<Expr>),
     /// `int.max`
     Property(BasicType, Name),
     /// `typeof(e).x`
-    TypeOfProperty(Boxed<Expr>, Name),
+    TypeOfProperty(Expr, Name),
     /// `mixin(e)`
-    Mixin(Boxed<Expr>),
+    Mixin(Expr),
     Is(Boxed<IsTree>),
     /// `__traits(name, a, b)`
     Traits(Name, Items<Argument>),
     /// `assert(e)`, and the message where one is written.
-    Assert(Boxed<Expr>, Option<Boxed<Expr>>),
+    Assert(Expr, Option<Expr>),
     /// `new`, a base without brackets, and what follows it: any number of `[]`, then `[n]` or a call of one argument,
     /// then other suffixes. Where only brackets stand before a first call and it has one argument, they belong to the
     /// type, as in `new T[n](x)`; otherwise the first `[n]` has the length, and what follows it is done to the new array.
     New(Boxed<TypeTree>, Items<Suffix>),
     /// What follows an operand, from left to right; at least one.
-    Postfix(Boxed<Expr>, Items<Suffix>),
-    Unary(UnaryOperator, Boxed<Expr>),
+    Postfix(Expr, Items<Suffix>),
+    Unary(UnaryOperator, Expr),
     /// `cast(T) e`
-    Cast(Boxed<TypeTree>, Boxed<Expr>),
+    Cast(Boxed<TypeTree>, Expr),
     /// Operators of one level, from left to right; at least one.
-    Chain(Boxed<Expr>, Items<Step>),
-    Compare(Boxed<Expr>, BinaryOperator, Boxed<Expr>),
+    Chain(Expr, Items<Step>),
+    Compare(Expr, BinaryOperator, Expr),
     /// `a ? b : c`
-    Conditional(Boxed<Expr>, Boxed<Expr>, Boxed<Expr>),
-    Assign(Boxed<Expr>, AssignOperator, Boxed<Expr>),
+    Conditional(Expr, Expr, Expr),
+    Assign(Expr, AssignOperator, Expr),
 }
 
 /// An operator of a chain, and the operand behind it.

@@ -15,7 +15,8 @@ mod word;
 
 pub use declaration::{
     Declaration, DeclarationBody, DeclarationBranch, DeclarationForm, DeclarationKind, Decls,
-    FunctionTree, ModuleTree, Parameter, Plain, StaticDeclaration, StructTree, TemplateTree,
+    FunctionTree, ModuleLine, ModuleTree, Parameter, Plain, StaticDeclaration, StructTree,
+    TemplateTree,
 };
 pub use expression::{Argument, Expr, ExprKind, IsAgainst, IsTest, IsTree, Step, Suffix, Symbol};
 pub use name::{Name, Path, Spelling, copy_name};

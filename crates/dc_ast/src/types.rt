@@ -1,6 +1,6 @@
 // The trees of types.
 use crate::{BasicType, Expr, Symbol};
-use sqlite_items::{Boxed, Items};
+use sqlite_items::Items;
 
 /// A type as it is written: a base and the brackets behind it, as `int[][3]` (D specification, "Types").
 #[cycle(ast)]
@@ -18,7 +18,7 @@ pub enum Base {
     /// A name of at least one part, as `a.b!int.c`.
     Named(Items<Symbol>),
     /// `typeof(e)`
-    TypeOf(Boxed<Expr>),
+    TypeOf(Expr),
     /// `immutable(char)`
     ImmutableChar,
 }
@@ -29,5 +29,5 @@ pub enum Bracket {
     /// `[]`
     Slice,
     /// `[n]`
-    Fixed(Boxed<Expr>),
+    Fixed(Expr),
 }

@@ -12,7 +12,9 @@ use Rattle.dc_code.specs.Effect.{Effect, Writes, Goes, Turns, Calls, Returns, Ch
 use Rattle.dc_code.specs.Table.{effect, is_taking}
 use Rattle.dc_code.specs.Perform.{ended, ticked_by, is_too_deep, entered, back_to, changes, with_longer, with_words, perform}
 use Rattle.dc_code.specs.Exec.{counted, at_instr, step, steps, start, begin_at, begin, function_at, Exec}
-use Rattle.dc_code.specs.Ticks.{ticks_of, ticks, BeginsWith, BoundsTicks, TicksBound}
+use Rattle.dc_types.specs.Events.{ticks_of, ticks, BeginsWith}
+use Rattle.dc_types.proofs.Ticks.{ticks-append}
+use Rattle.dc_code.specs.Ticks.{BoundsTicks, TicksBound}
 use Rattle.dc_code.specs.declared.instr.Op.{Op}
 use Rattle.dc_code.specs.declared.instr.Op.TheVariants as op
 use Rattle.dc_code.specs.declared.instr.Instr.{Instr}
@@ -21,10 +23,6 @@ use Rattle.dc_code.specs.declared.code.Draft.{Draft}
 use Rattle.dc_code.specs.declared.run.Caller.{Caller}
 use Rattle.dc_code.specs.declared.run.Block.{Block}
 use Rattle.dc_code.proofs.Once.{events_of, end_of_run, stays, longer}
-
-ticks-append : (xs ys : List Event) → ticks (xs ++ ys) ≡ ticks xs + ticks ys
-ticks-append [] ys = omega arith
-ticks-append (x ∷ xs) ys = let e = ticks-append xs ys in omega arith
 
 -- ---- what ticks are taken from one state of the machine on
 

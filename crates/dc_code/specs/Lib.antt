@@ -10,3 +10,4 @@ pub mod Exec
 pub mod Standing
 pub mod Ticks
 pub mod Laws
+pub mod Simple

@@ -28,7 +28,8 @@ fn stand_at_short_places(instrs: &[Instr]) -> bool
     instrs.iter().all(|i| is_short_place(&i.place))
 }
 
-fn is_short_code(draft: &Draft) -> bool
+/// Whether a number of 32 bits counts each list of the draft.
+pub fn is_short_code(draft: &Draft) -> bool
     ensures { IsTrue result ↔ IsShortCode draft.now }
 {
     is_short(draft.functions.as_slice())

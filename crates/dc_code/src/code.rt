@@ -1,5 +1,5 @@
 // Code, and a draft of it.
-use crate::check::is_sound_draft;
+use crate::check::{is_short_code, is_sound_draft};
 use crate::{Function, Instr};
 use dc_types::Items;
 use std::marker::Model;
@@ -42,8 +42,8 @@ impl Code {
     ghost use Rattle.std.specs.Prelude.{◌≡◌};
     ghost use Rattle.dc_code.specs.Sound.{IsSound};
 
-    // The draft is sound already.
-    pub(crate) fn of_sound(draft: Draft) -> Code
+    /// The code of a draft that is known to be sound. Where that isn't known, `Draft::finish` is the test.
+    pub fn of_sound(draft: Draft) -> Code
         requires { IsSound draft }
         ensures { result ≡ draft }
     {
@@ -91,8 +91,15 @@ impl Code {
 }
 
 impl Draft {
-    ghost use Rattle.std.specs.Prelude.{◌≡◌, ◌↔◌, IfOk, IfErr, IsErr};
-    ghost use Rattle.dc_code.specs.Sound.{IsSound};
+    ghost use Rattle.std.specs.Prelude.{◌≡◌, ◌↔◌, IfOk, IfErr, IsErr, IsTrue};
+    ghost use Rattle.dc_code.specs.Sound.{IsShortCode, IsSound};
+
+    /// Whether a number of 32 bits counts each list of the draft, those of its places among them.
+    pub fn is_short(&self) -> bool
+        ensures { IsTrue result ↔ IsShortCode self.now }
+    {
+        is_short_code(self)
+    }
 
     /// The code, where the draft is sound. Else the draft comes back.
     pub fn finish(self) -> Result<Code, Draft>

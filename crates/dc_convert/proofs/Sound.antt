@@ -39,10 +39,10 @@ within_fitted k r z h = by (lies r k) refl
 
 -- ---- four numbers
 
-least_of_two : (x y : ℤ) → (int_min x y ≤ℤ x) × (int_min x y ≤ℤ y)
+pub least_of_two : (x y : ℤ) → (int_min x y ≤ℤ x) × (int_min x y ≤ℤ y)
 least_of_two x y = (omega (arith, ints, clamps), omega (arith, ints, clamps))
 
-most_of_two : (x y : ℤ) → (x ≤ℤ int_max x y) × (y ≤ℤ int_max x y)
+pub most_of_two : (x y : ℤ) → (x ≤ℤ int_max x y) × (y ≤ℤ int_max x y)
 most_of_two x y = (omega (arith, ints, clamps), omega (arith, ints, clamps))
 
 record Spans (r : Range) (z : ℤ) : Type 0 where

@@ -64,10 +64,13 @@ literal_at (Some items) _ = false
 abbrev pub fits_at : Source-F (Ty → Bool) → Ty → Bool
 fits_at s to = same.ty s.ty to || goes s.range s.place s.ty to || literal_at s.items (out-Ty to)
 
+abbrev pub type_of : Source → Ty
+type_of s = (out-Source s).ty
+
 -- the source has the type or converts to it
 abbrev pub fits : Source → Ty → Bool
 fits = fold-Source (Ty → Bool) fits_at
 
 -- The level: 2 for the same type, 1 where the source converts to the type, and 0 where it doesn't.
 unfoldable pub level : Source → Ty → ℕ
-level s to = if same.ty (out-Source s).ty to then 2 else (if fits s to then 1 else 0)
+level s to = if same.ty (type_of s) to then 2 else (if fits s to then 1 else 0)

@@ -1,3 +1,4 @@
 pub mod Ranges
 pub mod Levels
 pub mod CommonKinds
+pub mod Best

@@ -14,6 +14,11 @@ pub record Within (r : Range) (z : ℤ) : Type 0 where
   pub at_least : r.lo ≤ℤ z
   pub at_most : z ≤ℤ r.hi
 
+-- each number of the one lies in the other, by their ends
+pub record IsInside (r outer : Range) : Type 0 where
+  pub from : outer.lo ≤ℤ r.lo
+  pub to : r.hi ≤ℤ outer.hi
+
 -- the range has a number, and lies in that of some kind
 pub record IsRange (r : Range) : Type 0 where
   pub kind : Kind
@@ -42,6 +47,10 @@ fitted k r = if lies r k then r else whole k
 -- the least range with these four numbers
 unfoldable pub spanned : ℤ → ℤ → ℤ → ℤ → Range
 spanned w x y z = record { lo = int_min (int_min w x) (int_min y z); hi = int_max (int_max w x) (int_max y z) }
+
+-- the least range with all numbers of both
+unfoldable pub hull : Range → Range → Range
+hull a b = record { lo = int_min a.lo b.lo; hi = int_max a.hi b.hi }
 
 -- the range has no number below 0
 abbrev pub from_zero : Range → Bool

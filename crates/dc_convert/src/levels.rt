@@ -1,7 +1,9 @@
 // How well a source fits a type.
 ghost use Rattle.std.specs.Prelude.{◌≡◌, map, ℤ, IsTrue, ◌↔◌, Some};
 ghost use Rattle.std.specs.List.{list_all};
-ghost use Rattle.dc_convert.specs.Levels.{widens, number_goes, Keeps, goes, literal_at, fits, level};
+ghost use Rattle.dc_convert.specs.Levels.{widens, number_goes, Keeps, goes, literal_at, type_of, fits, level};
+ghost use Rattle.dc_convert.specs.CommonKinds.{kind_of};
+ghost use Rattle.dc_types.specs.declared.kind.Kind.{Kind};
 ghost use Rattle.dc_types.specs.declared.ty.Ty.TheViews.{out-Ty};
 ghost use Rattle.dc_types.specs.declared.range.Source.{out-Source};
 ghost use Rattle.dc_types.specs.Integers.{InKind};
@@ -91,7 +93,8 @@ fn all_fit(items: &[Source], to: &Ty) -> bool
 #[tactic(auto, unfolding(crate::specs::Levels::level))]
 pub fn converts(from: &Source, to: &Ty) -> Level
     ensures value { result ≡ level from.now to.now }
-    ensures same { result ≡ 2 ↔ (out-Source from.now).ty ≡ to.now }
+    ensures same { result ≡ 2 ↔ type_of from.now ≡ to.now }
+    ensures keeps { (k j : Kind) → (z : ℤ) → kind_of (type_of from.now) ≡ Some k → kind_of to.now ≡ Some j → (result ≡ 0 → ⊥) → InKind k z → Within (out-Source from.now).range z → Keeps k j z }
 {
     if same_ty(&from.ty, to) {
         2

@@ -2,12 +2,14 @@
 //! "Types", "Implicit Conversions").
 #![tactic(auto)]
 
+mod laws;
 mod levels;
 mod numbers;
 mod ranges;
 #[cfg(test)]
 mod tests;
 
+pub use laws::{choice_laws, conversion_law};
 pub use levels::{converts, number_goes};
-pub use numbers::{common, kind_of, promoted};
-pub use ranges::{lies, range_as, range_of, whole};
+pub use numbers::{Joint, choice_type, common, kind_of, parts_type, promoted, result_type};
+pub use ranges::{hull, lies, range_as, range_of, whole};

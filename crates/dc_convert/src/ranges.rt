@@ -1,7 +1,8 @@
 // The ranges of operations.
 ghost use Rattle.std.specs.Prelude.{◌≡◌, ◌≤◌, ℤ, pos};
+ghost use Rattle.dc_types.specs.declared.range.Range.{Range};
 ghost use Rattle.dc_types.specs.Integers.{is_signed, bits_of, InKind, FitsRight, binary};
-ghost use Rattle.dc_convert.specs.Ranges.{IsRange, IsWide, Within, whole, lies, fitted, spanned, above_zero, from_zero, has_quotient, product, quotient, remainder, conjunction, disjunction, ones, shifted, range_of};
+ghost use Rattle.dc_convert.specs.Ranges.{IsRange, IsWide, Within, IsInside, hull, whole, lies, fitted, spanned, above_zero, from_zero, has_quotient, product, quotient, remainder, conjunction, disjunction, ones, shifted, range_of};
 
 use dc_types::{BinOp, Kind, Range};
 
@@ -57,12 +58,32 @@ pub fn lies(r: &Range, k: Kind) -> bool
 }
 
 /// The range of a value that is converted to the kind: its own where it lies in that of the kind, and else all
-/// numbers of the kind.
+/// numbers of the kind. It takes no memory.
 #[tactic(auto, unfolding(crate::specs::Ranges::fitted))]
 pub fn range_as(k: Kind, r: &Range) -> Range
     ensures { result ≡ fitted k r.now }
 {
     if lies(r, k) { *r } else { whole(k) }
+}
+
+#[tactic(auto, unfolding(crate::specs::Ranges::hull))]
+fn ends_of_both(a: &Range, b: &Range) -> Range
+    ensures { result ≡ hull a.now b.now }
+{
+    Range {
+        lo: a.lo.min(b.lo),
+        hi: a.hi.max(b.hi),
+    }
+}
+
+/// The least range that holds both: that of `c ? a : b`. It takes no memory.
+pub fn hull(a: &Range, b: &Range) -> Range
+    ensures value { result ≡ hull a.now b.now }
+    ensures left { IsInside a.now result }
+    ensures right { IsInside b.now result }
+    ensures least { (r : Range) → IsInside a.now r → IsInside b.now r → IsInside result r }
+{
+    ends_of_both(a, b)
 }
 
 /// The least range with these four numbers.

@@ -128,7 +128,7 @@ Stored = whole_decls (keyword 0 (codes "immutable") ∷ mark 1 (codes "(") ∷ k
 
 -- a module with its line
 abbrev Module : Type 0
-Module = whole_module (keyword 0 (codes "module") ∷ called 1 (codes "a") ∷ mark 2 (codes ".") ∷ called 3 (codes "b") ∷ mark 4 (codes ";") ∷ keyword 5 (codes "alias") ∷ called 6 (codes "x") ∷ mark 7 (codes "=") ∷ keyword 8 (codes "int") ∷ mark 9 (codes "[") ∷ mark 10 (codes "]") ∷ mark 11 (codes ";") ∷ keyword 12 (codes "struct") ∷ called 13 (codes "S") ∷ mark 14 (codes "(") ∷ called 15 (codes "T") ∷ mark 16 (codes ")") ∷ mark 17 (codes "{") ∷ mark 18 (codes "}") ∷ []) ≡ Some (m.module_tree (Some (id 1 (codes "a") ∷ id 3 (codes "b") ∷ [])) (m.declaration 5 (d.Plain [] (m.plain 5 (t.Alias (m.alias_tree (id 6 (codes "x")) None (arg.OfType (type_tree 8 (b.Basic basic.Int) (br.Slice ∷ []))))))) ∷ m.declaration 12 (d.Plain [] (m.plain 12 (t.Struct (m.struct_tree (id 13 (codes "S")) (Some (q.OfType (id 15 (codes "T")) ∷ [])) None [])))) ∷ []), [])
+Module = whole_module (keyword 0 (codes "module") ∷ called 1 (codes "a") ∷ mark 2 (codes ".") ∷ called 3 (codes "b") ∷ mark 4 (codes ";") ∷ keyword 5 (codes "alias") ∷ called 6 (codes "x") ∷ mark 7 (codes "=") ∷ keyword 8 (codes "int") ∷ mark 9 (codes "[") ∷ mark 10 (codes "]") ∷ mark 11 (codes ";") ∷ keyword 12 (codes "struct") ∷ called 13 (codes "S") ∷ mark 14 (codes "(") ∷ called 15 (codes "T") ∷ mark 16 (codes ")") ∷ mark 17 (codes "{") ∷ mark 18 (codes "}") ∷ []) ≡ Some (m.module_tree (Some (m.module_line 0 (id 1 (codes "a") ∷ id 3 (codes "b") ∷ []))) (m.declaration 5 (d.Plain [] (m.plain 5 (t.Alias (m.alias_tree (id 6 (codes "x")) None (arg.OfType (type_tree 8 (b.Basic basic.Int) (br.Slice ∷ []))))))) ∷ m.declaration 12 (d.Plain [] (m.plain 12 (t.Struct (m.struct_tree (id 13 (codes "S")) (Some (q.OfType (id 15 (codes "T")) ∷ [])) None [])))) ∷ []), [])
 
 examples : Dangling × Chained × Cut × Variables × Mixins × Conditionals × Switched × Loops × Attributes × Imports × Conditional × Half × Functions × Enums × Stored × Module
 unfolding same_terminal word sign terminal_of at_word many_from exprs.property exprs.immutable_char exprs.next_name exprs.slice_part exprs.single exprs.one_value exprs.one_basic exprs.bracket_length exprs.bracket exprs.type_of exprs.plain_base exprs.plain_type exprs.argument exprs.next_argument exprs.arguments exprs.some_arguments exprs.in_parens exprs.template_arguments exprs.instance_end exprs.symbol_read exprs.next_symbol exprs.named_base exprs.base exprs.bare_type exprs.type_read exprs.next_expr exprs.exprs exprs.some_exprs exprs.paren exprs.array exprs.type_of_property exprs.mixin exprs.against exprs.is_test_read exprs.is_tree_read exprs.is_expr exprs.traits exprs.assert exprs.primary exprs.operand exprs.member exprs.call exprs.slice_end exprs.inside exprs.bracketed exprs.suffix exprs.length_index exprs.length_call exprs.length_part exprs.new_parts exprs.new exprs.plain_postfix exprs.postfix exprs.prefix exprs.cast exprs.unary exprs.factor exprs.product exprs.term exprs.sum exprs.shifted exprs.shift exprs.comparison_end exprs.comparison exprs.bit_and_step exprs.bit_and exprs.bit_xor_step exprs.bit_xor exprs.bit_or_step exprs.bit_or exprs.and_step exprs.and exprs.or_step exprs.or exprs.conditional_end exprs.conditional exprs.assign_end exprs.whole exprs.expr_to part.head part.at_attribute part.attribute part.next_part part.path part.renamed_item part.plain_item part.item part.original part.bind part.binds part.imported part.static_import part.type_name part.maybe_typed part.alias_parameter part.template_parameter part.template_parameters part.value part.enum_member part.next_member part.members part.base_type part.enumeration part.manifest part.whole_argument part.alias_read part.one part.next_one part.variable_end part.auto_name part.loosely part.strictly part.stored_variable part.plain_variable part.variable_read part.stored_name part.parameter_name part.parameter_read part.parameters part.static_if part.version part.static_test part.range_end part.static_over part.message part.static_check part.for_expr part.for_start part.loop_read part.next_loop part.loops part.case_label part.default_label part.label_read stmts.chain_from stmts.one_item stmts.in_braces stmts.mixin_stmt stmts.expr_stmt stmts.break_stmt stmts.continue_stmt stmts.return_stmt stmts.enum_stmt stmts.block stmts.if_branch stmts.if_stmt stmts.while_stmt stmts.do_stmt stmts.for_stmt stmts.foreach_stmt stmts.group_read stmts.switch_stmt stmts.stmt_body stmts.static_branch stmts.conditional_stmt stmts.static_foreach stmts.stmt_kind stmts.one_stmt stmts.stmt_to decls.template_signature decls.signature decls.function_read decls.mixin_decl decls.enum_decl decls.typed_decl decls.template_head decls.section decls.struct_decl decls.template_decl decls.decl_body decls.static_branch decls.conditional_decl decls.static_foreach decls.decl_kind decls.plain_read decls.plain_decl decls.group_decl decls.decl_form decls.one_decl decls.decl_to decls.module_line decls.whole_module

@@ -4,11 +4,12 @@ use Rattle.std.specs.Prelude.{slice_range}
 use Rattle.std.proofs.lemmas.List.{take_at, drop_at, take-append-drop}
 use Rattle.dc_token.specs.declared.token.Token.{Token}
 use Rattle.dc_ast.specs.declared.name.Name.{Name}
+use Rattle.dc_ast.specs.declared.declaration.ModuleLine.{ModuleLine}
 use Rattle.dc_ast.specs.declared.declaration.ModuleTree.{ModuleTree}
 use Rattle.dc_grammar.specs.declared.terminal.Terminal.{Terminal}
 use Rattle.dc_grammar.specs.declared.terminal.Terminal.TheVariants as k
 use Rattle.dc_grammar.specs.Terminals.{Tokens, same_terminal}
-use Rattle.dc_grammar.specs.MoreTrees.{module_tree}
+use Rattle.dc_grammar.specs.MoreTrees.{module_line, module_tree}
 use Rattle.dc_grammar.specs.Shapes.{Optional}
 use Rattle.dc_grammar.specs.Parts.{IsPath}
 use Rattle.dc_grammar.specs.Statements as st
@@ -23,7 +24,7 @@ use Rattle.dc_grammar.specs.Reads.{Longest}
 use Rattle.dc_grammar.specs.Refusals.{IsRefusedAt, Divides, ListsDivide, OneItem, VariableFirst, NearestIf}
 use Rattle.dc_grammar.proofs.Good.{Good, Loose, Holds, Reaches, Fronts, Begins, Marked, Pair, IsRead, Shrunk, shrunk, none, or, is, mark_good, pair_sound, pair_reach, loose_reach, stops_at, wider}
 use Rattle.dc_grammar.proofs.Choices.{Disjoint, apart, true_left, true_right}
-use Rattle.dc_grammar.proofs.Tools.{pair, seq, Image, image, loose_image, rule}
+use Rattle.dc_grammar.proofs.Tools.{pair, seq, Image, image, loose_image, rule, Placed, placed}
 use Rattle.dc_grammar.proofs.Shapes.{optional_good, loose_retype, loose_narrow}
 use Rattle.dc_grammar.proofs.Laws.{at_start}
 use Rattle.dc_grammar.proofs.PartRules.{path_good}
@@ -61,15 +62,18 @@ every_decls n = record {
 
 -- ---- a module
 
-line_into : (ts : Tokens) (x : List Name) → Image (λ z. z.1.0) (Pair (Marked k.Module) (Pair IsPath (Marked k.Semicolon))) ts x → IsModuleLine ts x
-line_into ts x (z, q, eq) = rw (← eq, q.parts, q.two.parts) (g.module_line q.one q.two.one q.two.two)
+abbrev FLine : Tokens → ModuleLine → Type 0
+FLine = Placed (λ at z. module_line at z.1.0) (Pair (Marked k.Module) (Pair IsPath (Marked k.Semicolon)))
 
-line_back : (ts : Tokens) (x : List Name) → IsModuleLine ts x → Image (λ z. z.1.0) (Pair (Marked k.Module) (Pair IsPath (Marked k.Semicolon))) ts x
-line_back ts x (g.module_line {w1 = w1} {w2 = w2} {w3 = w3} {ns = ns} h1 h2 h3) = ((tt, (ns, tt)), pair w1 (w2 ++ w3) h1 (pair w2 w3 h2 h3), refl)
+line_into : (ts : Tokens) (x : ModuleLine) → FLine ts x → IsModuleLine ts x
+line_into ts x (z, q, eq) = rw (← eq, q.parts, q.two.parts) (g.a_module_line q.one q.two.one q.two.two)
+
+line_back : (ts : Tokens) (x : ModuleLine) → IsModuleLine ts x → FLine ts x
+line_back ts x (g.a_module_line {w1 = w1} {w2 = w2} {w3 = w3} {ns = ns} h1 h2 h3) = ((tt, (ns, tt)), pair w1 (w2 ++ w3) h1 (pair w2 w3 h2 h3), refl)
 
 line_good : (n : ℕ) → Good n none (is k.Module) IsModuleLine spec.module_line
 unfolding spec.module_line same_terminal
-line_good n = rule (image (λ z. z.1.0) (seq (mark_good n k.Module) (seq (path_good n) (mark_good n k.Semicolon) (omega arith) refl) (omega arith) refl)) none (is k.Module) IsModuleLine spec.module_line (λ ts. refl) line_into line_back refl refl
+line_good n = rule (placed (λ at z. module_line at z.1.0) (seq (mark_good n k.Module) (seq (path_good n) (mark_good n k.Semicolon) (omega arith) refl) (omega arith) refl)) none (is k.Module) IsModuleLine spec.module_line (λ ts. refl) line_into line_back refl refl
 
 -- two after one another, where both may be empty
 loose_both : {A B : Type 0} {n : ℕ} {gP fP gQ fQ : Terminal → Bool} {P : Tokens → A → Type 0} {Q : Tokens → B → Type 0} {p : Reader A} {q : Reader B}
@@ -118,7 +122,7 @@ module_into : (ts : Tokens) (x : ModuleTree) → Image (λ z. module_tree z.0 z.
 module_into ts x (z, q, eq) = rw (← eq, q.parts) (g.a_module q.one q.two)
 
 module_back : (ts : Tokens) (x : ModuleTree) → IsModule ts x → Image (λ z. module_tree z.0 z.1) (Pair (Optional IsModuleLine) AreDecls) ts x
-module_back ts x (g.a_module {w1 = w1} {w2 = w2} {ns = ns} {ds = ds} h c) = ((ns, ds), pair w1 w2 h c, refl)
+module_back ts x (g.a_module {w1 = w1} {w2 = w2} {l = l} {ds = ds} h c) = ((l, ds), pair w1 w2 h c, refl)
 
 abbrev pub begins_module : Terminal → Bool
 begins_module = or (is k.Module) begins_decl

@@ -4,6 +4,7 @@ use Rattle.std.specs.Prelude.{ℕ, zero, suc, Bool, false, List, ◌∷◌, leng
 use Rattle.dc_ast.specs.declared.name.Name.{Name}
 use Rattle.dc_ast.specs.declared.expression.Expr.{Expr}
 use Rattle.dc_ast.specs.declared.statement.TemplateParameter.{TemplateParameter}
+use Rattle.dc_ast.specs.declared.declaration.ModuleLine.{ModuleLine}
 use Rattle.dc_ast.specs.declared.declaration.ModuleTree.{ModuleTree}
 use Rattle.dc_ast.specs.declared.declaration.Declaration.{Declaration}
 use Rattle.dc_ast.specs.declared.declaration.DeclarationForm.{DeclarationForm}
@@ -22,6 +23,7 @@ use Rattle.dc_grammar.specs.declared.terminal.Terminal.{Terminal}
 use Rattle.dc_grammar.specs.declared.terminal.Terminal.TheVariants as k
 use Rattle.dc_grammar.specs.Terminals.{ahead}
 use Rattle.dc_grammar.specs.Words.{visibility}
+use Rattle.dc_grammar.specs.MoreTrees as trees
 use Rattle.dc_grammar.specs.MoreTrees.{function, declaration, plain, struct_tree, template_tree, declaration_branch, module_tree}
 use Rattle.dc_grammar.specs.Statements.{second, begins_conditional}
 use Rattle.dc_grammar.specs.Reading.{Reader, mark, means, both, either, ◌<$>◌, maybe, from_start, nothing}
@@ -146,8 +148,8 @@ decl_to (suc n) = one_decl (decl_to n)
 abbrev pub whole_decls : Reader (List Declaration)
 whole_decls = λ ts. items (decl_to (length ts)) ts
 
-unfoldable pub module_line : Reader (List Name)
-module_line = (λ z. z.1.0) <$> both (mark k.Module) (both path (mark k.Semicolon))
+unfoldable pub module_line : Reader ModuleLine
+module_line = from_start (λ at z. trees.module_line at z.1.0) (both (mark k.Module) (both path (mark k.Semicolon)))
 
 unfoldable pub whole_module : Reader ModuleTree
 whole_module = (λ z. module_tree z.0 z.1) <$> both (maybe module_line) whole_decls

@@ -16,6 +16,7 @@ use Rattle.dc_ast.specs.declared.statement.ConstantTree.{ConstantTree}
 use Rattle.dc_ast.specs.declared.statement.AliasTree.{AliasTree}
 use Rattle.dc_ast.specs.declared.statement.TemplateParameter.{TemplateParameter}
 use Rattle.dc_ast.specs.declared.statement.ImportTree.{ImportTree}
+use Rattle.dc_ast.specs.declared.declaration.ModuleLine.{ModuleLine}
 use Rattle.dc_ast.specs.declared.declaration.ModuleTree.{ModuleTree}
 use Rattle.dc_ast.specs.declared.declaration.Declaration.{Declaration}
 use Rattle.dc_ast.specs.declared.declaration.DeclarationForm.{DeclarationForm}
@@ -32,7 +33,7 @@ use Rattle.dc_ast.specs.declared.declaration.Parameter.{Parameter}
 use Rattle.dc_grammar.specs.declared.terminal.Terminal.TheVariants as k
 use Rattle.dc_grammar.specs.Terminals.{Tokens, start_of}
 use Rattle.dc_grammar.specs.Words.{visibility}
-use Rattle.dc_grammar.specs.MoreTrees.{function, declaration, plain, struct_tree, template_tree, declaration_branch, module_tree}
+use Rattle.dc_grammar.specs.MoreTrees.{function, declaration, plain, struct_tree, template_tree, declaration_branch, module_line, module_tree}
 use Rattle.dc_grammar.specs.Grammar.{◌·◌, Mark, Means, Id, IsType}
 use Rattle.dc_grammar.specs.Shapes.{Optional, Several}
 use Rattle.dc_grammar.specs.Parts.{Head, IsPath, IsAttribute, IsImport, AreTemplateParameters, IsEnum, IsConstant, IsAlias, IsVariable, AreParameters, IsStaticTest, IsStaticRange, IsStaticAssert}
@@ -105,8 +106,8 @@ mutual
     decls_in_braces : {w1 w2 w3 : Tokens} {ds : List Declaration} → Mark k.LeftBrace w1 → AreDecls w2 ds → Mark k.RightBrace w3 → IsDeclBody false (w1 · w2 · w3) (body.Braces ds)
 
 -- Module = ["module" Path ";"] {Decl}
-pub data IsModuleLine : Tokens → List Name → Type 0 where
-  module_line : {w1 w2 w3 : Tokens} {ns : List Name} → Mark k.Module w1 → IsPath w2 ns → Mark k.Semicolon w3 → IsModuleLine (w1 · w2 · w3) ns
+pub data IsModuleLine : Tokens → ModuleLine → Type 0 where
+  a_module_line : {w1 w2 w3 : Tokens} {ns : List Name} → Mark k.Module w1 → IsPath w2 ns → Mark k.Semicolon w3 → IsModuleLine (w1 · w2 · w3) (module_line (start_of (w1 · w2 · w3)) ns)
 
 pub data IsModule : Tokens → ModuleTree → Type 0 where
-  a_module : {w1 w2 : Tokens} {ns : Option (List Name)} {ds : List Declaration} → Optional IsModuleLine w1 ns → AreDecls w2 ds → IsModule (w1 · w2) (module_tree ns ds)
+  a_module : {w1 w2 : Tokens} {l : Option ModuleLine} {ds : List Declaration} → Optional IsModuleLine w1 l → AreDecls w2 ds → IsModule (w1 · w2) (module_tree l ds)

@@ -27,6 +27,7 @@ use Rattle.dc_ast.specs.declared.statement.TemplateParameter.{TemplateParameter}
 use Rattle.dc_ast.specs.declared.statement.ImportTree.{ImportTree}
 use Rattle.dc_ast.specs.declared.statement.ImportItem.{ImportItem}
 use Rattle.dc_ast.specs.declared.statement.Bind.{Bind}
+use Rattle.dc_ast.specs.declared.declaration.ModuleLine.{ModuleLine}
 use Rattle.dc_ast.specs.declared.declaration.ModuleTree.{ModuleTree}
 use Rattle.dc_ast.specs.declared.declaration.Declaration.{Declaration, roll-Declaration}
 use Rattle.dc_ast.specs.declared.declaration.DeclarationForm.{DeclarationForm}
@@ -109,5 +110,8 @@ template_tree name parameters constraint members = roll-TemplateTree (record { n
 abbrev pub declaration_branch : ℕ → StaticTest → DeclarationBody → DeclarationBranch
 declaration_branch at test body = roll-DeclarationBranch (record { at = at; test = test; body = body })
 
-abbrev pub module_tree : Option (List Name) → List Declaration → ModuleTree
-module_tree name declarations = record { name = name; declarations = declarations }
+abbrev pub module_line : ℕ → List Name → ModuleLine
+module_line at name = record { at = at; name = name }
+
+abbrev pub module_tree : Option ModuleLine → List Declaration → ModuleTree
+module_tree line declarations = record { line = line; declarations = declarations }

@@ -136,6 +136,12 @@ digits_allowed digits u r = rw r.parts (go r.tail r.goes)
     go [] h = no_base r.head 46 (inr refl)
     go (d ∷ tail) h = no_base r.head d (inl (and_parts (is_digit_or_bar d) (list_all is_digit_or_bar tail) h).0)
 
+digit_counts : (b : ℕ) → is_ascii_digit b ≡ true → is_digit_or_bar b ≡ true
+digit_counts b h = grind (arith, nat_tests)
+
+digits_all : (digits : Bytes) → Run is_ascii_digit is_digit_or_bar digits → list_all is_digit_or_bar digits ≡ true
+digits_all digits r = let h = digit_counts r.head r.begins in rw (r.parts, h) r.goes
+
 pub same_fronts : (w v a b : Bytes) → w ++ a ≡ v ++ b → length w ≡ length v → (w ≡ v) × (a ≡ b)
 same_fronts [] [] a b e h = (refl, e)
 same_fronts [] (d ∷ v) a b e h = absurd (omega arith)
@@ -161,7 +167,7 @@ module _ (k : Item) (w x u : Bytes) (n : Next Spells (w ++ (x ++ u)) k w (x ++ u
   some_byte = let b = starts k w (x ++ u) n.is.spells in rw b.parts (omega arith)
 
   -- digits and a point that make up w and x: w is a decimal integer, and x the point
-  point_apart : (digits : Bytes) → Run is_ascii_digit is_digit_or_bar digits → w ++ x ≡ digits ++ (46 ∷ []) → length w ≤ length digits → (k ≡ item.Decimal) × (x ≡ 46 ∷ [])
+  point_apart : (digits : Bytes) → Run is_ascii_digit is_digit_or_bar digits → w ++ x ≡ digits ++ (46 ∷ []) → length w ≤ length digits → (k ≡ item.Decimal) × ((list_all is_digit_or_bar w ≡ true) × (x ≡ 46 ∷ []))
   point_apart digits r e short =
       let t : w ++ (x ++ u) ≡ digits ++ (46 ∷ u) = sym (append_assoc w x u) ∙ ap (λ (y : Bytes). y ++ u) e ∙ append_assoc digits (46 ∷ []) u in
       let d : IsDecimal digits = record { digits = digits; suffix = []; parts = sym (append-nil digits); run = r; ends = refl } in
@@ -170,7 +176,7 @@ module _ (k : Item) (w x u : Bytes) (n : Next Spells (w ++ (x ++ u)) k w (x ++ u
       let same = same_fronts w digits (x ++ u) (46 ∷ u) t (omega arith) in
       let f = same_fronts w digits x (46 ∷ []) e (omega arith) in
       let j : IsItem Spells item.Decimal w (x ++ u) = subst (λ (y : Bytes). IsItem Spells item.Decimal w y) (sym same.1) (subst (λ (y : Bytes). IsItem Spells item.Decimal y (46 ∷ u)) (sym same.0) i) in
-      (one_kind (w ++ (x ++ u)) w (x ++ u) refl (begins 113 123 (w ++ (x ++ u))) refl k item.Decimal n.is j, f.1)
+      (one_kind (w ++ (x ++ u)) w (x ++ u) refl (begins 113 123 (w ++ (x ++ u))) refl k item.Decimal n.is j, (subst (λ (y : Bytes). list_all is_digit_or_bar y ≡ true) (sym same.0) (digits_all digits r), f.1))
 
   module _ (b : Bytes) (f : Tail k w x u b) where
     old_spells : (j : Item) (v y left : Bytes) → is_lean j ≡ true → length w < length v → w ++ x ≡ v ++ left → y ≡ left ++ b → PlainSpells j v y → Spells j v (left ++ u)
@@ -202,7 +208,7 @@ module _ (k : Item) (w x u : Bytes) (n : Next Spells (w ++ (x ++ u)) k w (x ++ u
         let short = n.longest j v (l.left ++ u) old o in
         absurd (omega arith)
 
-  module _ (z : Bytes) (c : ℕ) (blank : is_blank c ≡ true) (apart : IsApart u) (no_point : k ≡ item.Decimal → x ≡ 46 ∷ [] → ⊥) where
+  module _ (z : Bytes) (c : ℕ) (blank : is_blank c ≡ true) (apart : IsApart u) (no_point : k ≡ item.Decimal → list_all is_digit_or_bar w ≡ true → x ≡ 46 ∷ [] → ⊥) where
     old_float : (v left : Bytes) → length w < length v → w ++ x ≡ v ++ left → IsFloat v (left ++ (c ∷ z)) → IsFloat v (left ++ u)
     old_float v left longer front f = record {
       digits = f.digits;
@@ -222,7 +228,8 @@ module _ (k : Item) (w x u : Bytes) (n : Next Spells (w ++ (x ++ u)) k w (x ++ u
             let all : w ++ x ≡ f.digits ++ (46 ∷ []) = front ∙ ap (λ (y : Bytes). v ++ y) none ∙ append-nil v ∙ is in
             let size : length v ≡ length f.digits + 1 = ap (λ (y : Bytes). length y) is ∙ length-append f.digits (46 ∷ []) in
             let p = point_apart f.digits f.run all (omega arith) in
-            no_point p.0 p.1
+            let q = p.1 in
+            no_point p.0 q.0 q.1
           where
             first : (a b : Bytes) → a ++ b ≡ [] → a ≡ []
             first [] b e = refl

@@ -1,5 +1,5 @@
 -- Items that end by a mark of their own, where white space is added behind them.
-use Rattle.std.proofs.Common.{◌≡◌, ℕ, suc, ◌+◌, ◌<◌, ◌≤◌, Bool, true, false, ◌||◌, ◌==◌, [], ◌∷◌, ◌++◌, ◌⊎◌, inl, inr, length, ⊎_elim, refl, sym, ap, subst, ◌∙◌, append_assoc, append-nil, arith, length-append}
+use Rattle.std.proofs.Common.{◌≡◌, ℕ, suc, ◌+◌, ◌<◌, ◌≤◌, Bool, true, false, ◌||◌, ◌==◌, [], ◌∷◌, ◌++◌, ◌⊎◌, inl, inr, length, drop, ⊎_elim, refl, sym, ap, subst, ◌∙◌, append_assoc, append-nil, arith, length-append}
 use Rattle.std.proofs.lemmas.Bool.{and_parts}
 use Rattle.std.proofs.lemmas.Str.{encode_same, char_from_byte}
 use Rattle.std.specs.List.{list_all}
@@ -11,18 +11,17 @@ use Rattle.dc_token.specs.Escapes.{escape}
 use Rattle.dc_token.specs.Strings.{Suffixed, IsBody, IsToQuote, IsCharacter, IsOneCharacter, IsOneEscape, is_suffix, is_suffix_byte}
 use Rattle.dc_token.specs.declared.item.Item.{Item}
 use Rattle.dc_token.specs.declared.item.Item.TheVariants as item
+use Rattle.dc_lexer.specs.Cuts.{is_unfinished}
 use Rattle.dc_lexer.proofs.Solid.{heads_are, tails_are, leaves, before, all_append}
 use Rattle.dc_lexer.proofs.Gaps.{all_behind}
 use Rattle.dc_lexer.proofs.Swapped.{same_rest_length}
 use Rattle.dc_lexer.proofs.Quoting.{escape_stays, body_swapped, one_body}
 
--- the kinds that may go on in what follows
-abbrev pub goes_on : Item → Bool
-goes_on item.Blank = true
-goes_on item.LineComment = true
-goes_on item.Delimited = true
-goes_on item.HexString = true
-goes_on other = false
+-- the items that may go on in what follows
+abbrev pub goes_on : Item → Bytes → Bool
+goes_on item.Blank w = true
+goes_on item.LineComment w = true
+goes_on other w = is_unfinished other w
 
 -- a longer front has one more byte
 pub record Grown (v w r y : Bytes) : Type 0 where
@@ -49,21 +48,35 @@ run_more f w v left h a b e =
     let one : f h ≡ true = (and_parts (f h) (list_all f left) (all_behind f a.tail (h ∷ left) all)).0 in
     record { head = a.head; tail = a.tail ++ (h ∷ []); parts = ap (λ (x : Bytes). x ++ (h ∷ [])) a.parts; begins = a.begins; goes = all_append f a.tail (h ∷ []) a.goes (rw one refl) }
 
-pub line_more : (w v left : Bytes) (h : ℕ) → IsLine w → IsLine v → v ≡ w ++ (h ∷ left) → IsLine (w ++ (h ∷ []))
-line_more w v left h a b e =
+pub line_byte : (w v left : Bytes) (h : ℕ) → IsLine w → IsLine v → v ≡ w ++ (h ∷ left) → is_not_line_feed h ≡ true
+line_byte w v left h a b e =
     let whole : 47 ∷ 47 ∷ (a.tail ++ (h ∷ left)) ≡ 47 ∷ 47 ∷ b.tail = sym (e ∙ ap (λ (x : Bytes). x ++ (h ∷ left)) a.parts) ∙ b.parts in
     let tail : a.tail ++ (h ∷ left) ≡ b.tail = tails_are 47 47 (a.tail ++ (h ∷ left)) b.tail (tails_are 47 47 (47 ∷ (a.tail ++ (h ∷ left))) (47 ∷ b.tail) whole) in
     let all : list_all is_not_line_feed (a.tail ++ (h ∷ left)) ≡ true = subst (λ (x : Bytes). list_all is_not_line_feed x ≡ true) (sym tail) b.is in
-    let one : is_not_line_feed h ≡ true = (and_parts (is_not_line_feed h) (list_all is_not_line_feed left) (all_behind is_not_line_feed a.tail (h ∷ left) all)).0 in
-    record { tail = a.tail ++ (h ∷ []); parts = ap (λ (x : Bytes). x ++ (h ∷ [])) a.parts; is = all_append is_not_line_feed a.tail (h ∷ []) a.is (rw one refl) }
+    (and_parts (is_not_line_feed h) (list_all is_not_line_feed left) (all_behind is_not_line_feed a.tail (h ∷ left) all)).0
+
+pub line_adds : (w a : Bytes) → IsLine w → list_all is_not_line_feed a ≡ true → IsLine (w ++ a)
+line_adds w a l all = record { tail = l.tail ++ a; parts = ap (λ (x : Bytes). x ++ a) l.parts; is = all_append is_not_line_feed l.tail a l.is all }
+
+pub line_more : (w v left : Bytes) (h : ℕ) → IsLine w → IsLine v → v ≡ w ++ (h ∷ left) → IsLine (w ++ (h ∷ []))
+line_more w v left h a b e = let one = line_byte w v left h a b e in line_adds w (h ∷ []) a (rw one refl)
 
 -- ---- `q"` and `x"`
 
-pub quote_stays : (letter : ℕ) (w r p : Bytes) → 0 < length r → IsToQuote letter w r → IsToQuote letter w p
-quote_stays letter w r p some s = record { inside = s.inside; closer = s.closer; parts = s.parts; goes = s.goes; closes = ⊎_elim (λ e. inl e) (λ e. absurd (let k : length r ≡ 0 = ap (λ (x : Bytes). length x) e.1 in omega arith)) s.closes }
+-- no second quote stands in the string
+abbrev pub Unfinished : Bytes → Type 0
+Unfinished w = list_all is_not_quote (drop 2 w) ≡ true
 
-pub quote_only : (letter : ℕ) (w r v y : Bytes) → 0 < length r → IsToQuote letter w r → IsToQuote letter v y → w ++ r ≡ v ++ y → length v ≤ length w
-quote_only letter w r v y some a b e = ⊎_elim closed (λ f. absurd (let k : length r ≡ 0 = ap (λ (x : Bytes). length x) f.1 in omega arith)) a.closes
+unfinished : (letter : ℕ) (w r : Bytes) (s : IsToQuote letter w r) → s.closer ≡ [] → Unfinished w
+unfinished letter w r s e =
+    let i : w ≡ letter ∷ 34 ∷ s.inside = s.parts ∙ ap (λ (x : Bytes). letter ∷ 34 ∷ (s.inside ++ x)) e ∙ ap (λ (x : Bytes). letter ∷ 34 ∷ x) (append-nil s.inside) in
+    subst (λ (x : Bytes). list_all is_not_quote (drop 2 x) ≡ true) (sym i) s.goes
+
+pub quote_stays : (letter : ℕ) (w r p : Bytes) → (Unfinished w → 0 < length r) → IsToQuote letter w r → IsToQuote letter w p
+quote_stays letter w r p some s = record { inside = s.inside; closer = s.closer; parts = s.parts; goes = s.goes; closes = ⊎_elim (λ e. inl e) (λ e. absurd (let k : length r ≡ 0 = ap (λ (x : Bytes). length x) e.1 in let l = some (unfinished letter w r s e.0) in omega arith)) s.closes }
+
+pub quote_only : (letter : ℕ) (w r v y : Bytes) → (Unfinished w → 0 < length r) → IsToQuote letter w r → IsToQuote letter v y → w ++ r ≡ v ++ y → length v ≤ length w
+quote_only letter w r v y some a b e = ⊎_elim closed (λ f. absurd (let k : length r ≡ 0 = ap (λ (x : Bytes). length x) f.1 in let l = some (unfinished letter w r a f.0) in omega arith)) a.closes
   where
     size : (s : IsToQuote letter v y) → length v ≤ 3 + length s.inside
     size s =

@@ -7,6 +7,7 @@ pub mod Enclosing
 pub mod Comments
 pub mod Finding
 pub mod Scanning
+pub mod Laying
 pub mod TokenStrings
 pub mod Names
 pub mod Strings
@@ -23,6 +24,8 @@ pub mod Quoting
 pub mod Kept
 pub mod Stays
 pub mod Stopped
+pub mod Lines
 pub mod Braced
 pub mod Placed
 pub mod WholeText
+pub mod Needed

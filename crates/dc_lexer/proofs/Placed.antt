@@ -6,21 +6,22 @@ use Rattle.std.specs.List.{list_all}
 use Rattle.std.specs.Char.{encode_utf8}
 use Rattle.std.specs.Str.{encode_utf8_all}
 use Rattle.dc_token.specs.Balance.{Bytes}
-use Rattle.dc_token.specs.Bytes.{Run, is_blank, is_letter}
+use Rattle.dc_token.specs.Bytes.{Run, is_blank, is_letter, is_digit_or_bar, is_not_line_feed}
 use Rattle.dc_token.specs.Items.{Spells, IsItem, Next}
-use Rattle.dc_token.specs.Text.{Piece, bytes_of, tokens_of, is_token, token, Reads}
+use Rattle.dc_token.specs.Text.{Piece, Cut, bytes_of, tokens_of, is_token, token, Reads}
 use Rattle.dc_token.specs.declared.token.Token.{Token}
 use Rattle.dc_token.specs.declared.item.Item.{Item}
 use Rattle.dc_token.specs.declared.item.Item.TheVariants as item
 use Rattle.dc_lexer.specs.Leads.{lead, can_begin}
 use Rattle.dc_lexer.specs.declared.lead.Lead.TheVariants as lead_is
-use Rattle.dc_lexer.specs.Cuts.{Cut, takes_space, is_point, is_float_apart, has_room, IsSpace, moved}
+use Rattle.dc_lexer.specs.Cuts.{is_unfinished, is_point, is_float_apart, has_room, IsSpace, moved}
 use Rattle.dc_lexer.proofs.Starts.{starts, letter_class, positive}
 use Rattle.dc_lexer.proofs.Agreeing.{agrees}
 use Rattle.dc_lexer.proofs.Solid.{heads_are, tails_are, all_append, is_inner}
 use Rattle.dc_lexer.proofs.Gaps.{IsApart, all_behind, blank_tail}
 use Rattle.dc_lexer.proofs.Kept.{goes_on, grown}
 use Rattle.dc_lexer.proofs.Stays.{next_stays}
+use Rattle.dc_lexer.proofs.Lines.{lined, all_front, blank_ascii, line_end, line_next}
 use Rattle.dc_lexer.proofs.Braced.{token_string_stays, grows}
 
 -- ---- a text that can be read does not begin inside a character
@@ -181,7 +182,7 @@ pub cut_parts : (t : Bytes) (ps : List Piece) (u : Bytes) → Cut t ps u → t �
 cut_parts t ps u Cut.none = refl
 cut_parts t ps u (Cut.more {w = w} {rest = rest} {ps = qs} n c) = n.parts ∙ ap (λ (x : Bytes). w ++ x) (cut_parts rest qs u c) ∙ sym (append_assoc w (bytes_of qs) u)
 
-next_some : (t : Bytes) (k : Item) (w rest : Bytes) → Next Spells t k w rest → 0 < length w
+pub next_some : (t : Bytes) (k : Item) (w rest : Bytes) → Next Spells t k w rest → 0 < length w
 next_some t k w rest n = let b = starts k w rest n.is.spells in rw b.parts (omega arith)
 
 -- the last piece is white space
@@ -192,9 +193,9 @@ ends_blank ((other, w) ∷ []) = false
 ends_blank (p ∷ q ∷ ps) = ends_blank (q ∷ ps)
 
 -- where there is room, what the step asks for
-record Room (k : Item) (x : Bytes) (ps : List Piece) : Type 0 where
-  behind : goes_on k ≡ true → 0 < length x
-  no_point : k ≡ item.Decimal → x ≡ 46 ∷ [] → ⊥
+record Room (k : Item) (w x : Bytes) (ps : List Piece) : Type 0 where
+  behind : goes_on k w ≡ true → 0 < length x
+  no_point : k ≡ item.Decimal → list_all is_digit_or_bar w ≡ true → x ≡ 46 ∷ [] → ⊥
   later : has_room ps ≡ true
   later_ends : ends_blank ps ≡ false
 
@@ -205,38 +206,56 @@ not_true false h e = absurd (let l : false ≡ true = e in cc)
 point_bytes : (w : Bytes) → w ++ [] ≡ 46 ∷ [] → is_point w ≡ true
 point_bytes w e = let f : w ≡ 46 ∷ [] = sym (append-nil w) ∙ e in rw f refl
 
-last_takes : (k : Item) (w : Bytes) → ends_blank ((k, w) ∷ []) ≡ false → takes_space k ≡ false → goes_on k ≡ false
-last_takes item.Blank w e h = absurd (let l : true ≡ false = e in cc)
-last_takes item.LineComment w e h = h
-last_takes item.Delimited w e h = h
-last_takes item.HexString w e h = h
-last_takes other w e h = refl
+last_takes : (k : Item) (w : Bytes) → ends_blank ((k, w) ∷ []) ≡ false → (k ≡ item.LineComment → ⊥) → is_unfinished k w ≡ false → goes_on k w ≡ false
+last_takes item.Blank w e line h = absurd (let l : true ≡ false = e in cc)
+last_takes item.LineComment w e line h = absurd (line refl)
+last_takes other w e line h = h
 
 not_false : (x : Bool) → not x ≡ true → x ≡ false
 not_false true h = absurd (let l : false ≡ true = h in cc)
 not_false false h = refl
 
-rooms : (k : Item) (w : Bytes) (t : Bytes) (ps : List Piece) (u : Bytes) → Cut t ps u → has_room ((k, w) ∷ ps) ≡ true → ends_blank ((k, w) ∷ ps) ≡ false → Room k (bytes_of ps) ps
-rooms k w t ps u Cut.none h ends = record { behind = λ e. absurd (let g = last_takes k w ends (not_false (takes_space k) h) in let l : false ≡ true = sym g ∙ e in cc); no_point = λ e f. cc; later = refl; later_ends = refl }
-rooms k w t ps u (Cut.more {kind = j} {w = v} n Cut.none) h ends =
-    let p = and_parts (not (takes_space j)) (not (is_float_apart (k, w) (j, v))) h in
+room_last : (k : Item) (w : Bytes) → has_room ((k, w) ∷ []) ≡ true → ends_blank ((k, w) ∷ []) ≡ false → (k ≡ item.LineComment → ⊥) → Room k w [] []
+room_last k w h ends line = record { behind = λ e. absurd (let g = last_takes k w ends line (not_false (is_unfinished k w) h) in let l : false ≡ true = sym g ∙ e in cc); no_point = λ e d f. cc; later = refl; later_ends = refl }
+
+rooms : (k : Item) (w : Bytes) (t : Bytes) (p : Piece) (ps : List Piece) (u : Bytes) → Cut t (p ∷ ps) u → has_room ((k, w) ∷ p ∷ ps) ≡ true → ends_blank ((k, w) ∷ p ∷ ps) ≡ false → Room k w (bytes_of (p ∷ ps)) (p ∷ ps)
+rooms k w t p ps u (Cut.more {kind = j} {w = v} n Cut.none) h ends =
+    let p = and_parts (not (is_unfinished j v)) (not (is_float_apart (k, w) (j, v))) h in
     record {
       behind = λ e. (let some = next_some _ j v _ n in let l = length-append v [] in omega arith);
-      no_point = λ e f. not_true (is_float_apart (k, w) (j, v)) p.1 (subst (λ i. is_float_apart (i, w) (j, v) ≡ true) (sym e) (point_bytes v f));
+      no_point = λ e d f. not_true (is_float_apart (k, w) (j, v)) p.1 (subst (λ i. is_float_apart (i, w) (j, v) ≡ true) (sym e) (rw d (point_bytes v f)));
       later = p.0;
       later_ends = ends;
     }
-rooms k w t ps u (Cut.more {kind = j} {w = v} n (Cut.more {kind = i} {w = x} {ps = qs} m c)) h ends =
+rooms k w t p ps u (Cut.more {kind = j} {w = v} n (Cut.more {kind = i} {w = x} {ps = qs} m c)) h ends =
     let one = next_some _ j v _ n in
     let two = next_some _ i x _ m in
     let l = length-append v (x ++ bytes_of qs) in
     let r = length-append x (bytes_of qs) in
     record {
       behind = λ e. omega arith;
-      no_point = λ e f. absurd (let size : length (v ++ (x ++ bytes_of qs)) ≡ 1 = ap (λ (y : Bytes). length y) f in omega arith);
+      no_point = λ e d f. absurd (let size : length (v ++ (x ++ bytes_of qs)) ≡ 1 = ap (λ (y : Bytes). length y) f in omega arith);
       later = h;
       later_ends = ends;
     }
+
+-- ---- a comment up to the end of the line
+
+is_line_item : (k : Item) → (k ≡ item.LineComment) ⊎ (k ≡ item.LineComment → ⊥)
+is_line_item item.LineComment = inl refl
+is_line_item other = inr (λ e. cc)
+
+moved_twice : (n m : ℕ) (ts : List Token) → moved n (moved m ts) ≡ moved (m + n) ts
+moved_twice n m [] = refl
+moved_twice n m (t ∷ ts) =
+    let e : t.start + m + n ≡ t.start + (m + n) = omega arith in
+    let f : t.end + m + n ≡ t.end + (m + n) = omega arith in
+    rw (e, f, moved_twice n m ts) refl
+
+-- white space in front of a text, or none
+some_in_front : (b : Bytes) → list_all is_blank b ≡ true → (at : ℕ) (t : Bytes) (ts : List Token) → Reads at t ts → Reads at (b ++ t) (moved (length b) ts)
+some_in_front [] h at t ts r = let e : at + 0 ≡ at = omega arith in subst (λ i. Reads i t (moved 0 ts)) e (shifted 0 at t ts r)
+some_in_front (c ∷ b) h at t ts r = in_front (c ∷ b) (record { some = omega arith; blank = h }) at t ts r
 
 module _ (s : Bytes) (space : IsSpace s) (u : Bytes) (ts : List Token) where
   -- white space as its first byte and more
@@ -322,19 +341,59 @@ module _ (s : Bytes) (space : IsSpace s) (u : Bytes) (ts : List Token) where
       let o : Next Spells (w ++ (bytes_of qs ++ (s ++ u))) k w (bytes_of qs ++ (s ++ u)) = subst (λ (x : Bytes). Next Spells (w ++ (x ++ (s ++ u))) k w (x ++ (s ++ u))) (sym l.parts) new in
       piece_on at k w qs o (behind_space (at + length w) rest qs (Cut.more m c) e (subst (λ i. Reads i u ts) i r))
 
-  behind : (at : ℕ) (t : Bytes) (ps : List Piece) → Cut t ps u → has_room ps ≡ true → ends_blank ps ≡ false → Reads (at + length (bytes_of ps)) u ts → Reads at (bytes_of ps ++ (s ++ u)) (tokens_of at ps ++ moved (length s) ts)
-  behind at t ps Cut.none h ends r = let e : at + 0 ≡ at = omega arith in in_front s space at u ts (subst (λ i. Reads i u ts) e r)
-  behind at t ps (Cut.more {kind = k} {w = w} {rest = rest} {ps = qs} n c) h ends r =
-      let room = rooms k w rest qs u c h ends in
-      let e : at + length (w ++ bytes_of qs) ≡ at + length w + length (bytes_of qs) = (let l = length-append w (bytes_of qs) in omega arith) in
+  -- the comment takes up white space on its line
+  line_on : (at : ℕ) (w t : Bytes) → Next Spells t item.LineComment w u → Reads (at + length w) u ts → Reads at (w ++ (s ++ u)) (moved (length s) ts)
+  line_on at w t n r =
+      let l = lined s in
+      let blank : list_all is_blank (l.front ++ l.rest) ≡ true = subst (λ (x : Bytes). list_all is_blank x ≡ true) l.parts space.blank in
+      let ascii = blank_ascii l.front (all_front is_blank l.front l.rest blank) in
+      let i = line_next w u l.front l.rest old l.same_line ascii (ends l.rest l.ends) in
+      let later = shifted (length l.front) (at + length w) (l.rest ++ u) (moved (length l.rest) ts) (some_in_front l.rest (all_behind is_blank l.front l.rest blank) (at + length w) u ts r) in
+      let size : length l.rest + length l.front ≡ length s = (let k : length s ≡ length l.front + length l.rest = ap (λ (x : Bytes). length x) l.parts ∙ length-append l.front l.rest in omega arith) in
+      let all : moved (length l.front) (moved (length l.rest) ts) ≡ moved (length s) ts = moved_twice (length l.front) (length l.rest) ts ∙ ap (λ n. moved n ts) size in
+      let place : at + length w + length l.front ≡ at + length (w ++ l.front) = (let k = length-append w l.front in omega arith) in
+      let text : w ++ (l.front ++ (l.rest ++ u)) ≡ w ++ (s ++ u) = ap (λ (x : Bytes). w ++ x) (sym (append_assoc l.front l.rest u) ∙ ap (λ (x : Bytes). x ++ u) (sym l.parts)) in
+      subst (λ (x : Bytes). Reads at x (moved (length s) ts)) text
+      (Reads.space i refl (subst (λ k. Reads k (l.rest ++ u) (moved (length s) ts)) place (subst (λ (x : List Token). Reads (at + length w + length l.front) (l.rest ++ u) x) all later)))
+    where
+      old : Next Spells (w ++ u) item.LineComment w u
+      old = subst (λ (x : Bytes). Next Spells x item.LineComment w u) n.parts n
+
+      ends : (b : Bytes) → ((h : ℕ) (x : Bytes) → b ≡ h ∷ x → is_not_line_feed h ≡ false) → (h : ℕ) (x : Bytes) → b ++ u ≡ h ∷ x → is_not_line_feed h ≡ false
+      ends [] g h x e = line_end w u old h x e
+      ends (d ∷ b) g h x e = subst (λ n. is_not_line_feed n ≡ false) (heads_are d h (b ++ u) x e) (g d b refl)
+
+  -- an item with room behind it is the next one where the white space stands
+  pub one_on : (at : ℕ) (k : Item) (w t rest : Bytes) (qs : List Piece) → Next Spells t k w rest → Cut rest qs u → (goes_on k w ≡ true → 0 < length (bytes_of qs)) → (k ≡ item.Decimal → list_all is_digit_or_bar w ≡ true → bytes_of qs ≡ 46 ∷ [] → ⊥) → Reads at u ts → Next Spells (w ++ (bytes_of qs ++ (s ++ u))) k w (bytes_of qs ++ (s ++ u))
+  one_on at k w t rest qs n c behind no_point r =
       let parts = cut_parts rest qs u c in
       let old : Next Spells (w ++ (bytes_of qs ++ u)) k w (bytes_of qs ++ u) = subst (λ (x : Bytes). Next Spells (w ++ x) k w x) parts (subst (λ (x : Bytes). Next Spells x k w rest) n.parts n) in
       let sp = spaced s refl space.some space.blank in
-      let tail = blank_tail k w (bytes_of qs) u old sp.more sp.first sp.blank (read_apart (at + length (w ++ bytes_of qs)) u ts r) room.no_point in
-      let new = next_stays (sp.first ∷ sp.more) k w (bytes_of qs) u old tail (λ e. token_string_stays w (bytes_of qs ++ u) (bytes_of qs ++ (sp.first ∷ sp.more))) room.behind in
-      let m : Next Spells (w ++ (bytes_of qs ++ (s ++ u))) k w (bytes_of qs ++ (s ++ u)) = subst (λ (x : Bytes). Next Spells (w ++ (bytes_of qs ++ x)) k w (bytes_of qs ++ x)) (sym sp.parts) new in
-      let later = behind (at + length w) rest qs c room.later room.later_ends (subst (λ i. Reads i u ts) e r) in
-      piece_on at k w qs m later
+      let tail = blank_tail k w (bytes_of qs) u old sp.more sp.first sp.blank (read_apart at u ts r) no_point in
+      let new = next_stays (sp.first ∷ sp.more) k w (bytes_of qs) u old tail (λ e. token_string_stays w (bytes_of qs ++ u) (bytes_of qs ++ (sp.first ∷ sp.more))) behind in
+      subst (λ (x : Bytes). Next Spells (w ++ (bytes_of qs ++ x)) k w (bytes_of qs ++ x)) (sym sp.parts) new
+
+  last_on : (at : ℕ) (k : Item) (w t : Bytes) → Next Spells t k w u → has_room ((k, w) ∷ []) ≡ true → ends_blank ((k, w) ∷ []) ≡ false → Reads (at + length w) u ts → (k ≡ item.LineComment) ⊎ (k ≡ item.LineComment → ⊥)
+      → Reads at ((w ++ []) ++ (s ++ u)) (tokens_of at ((k, w) ∷ []) ++ moved (length s) ts)
+  last_on at k w t n h ends r (inl e) =
+      let l = line_on at w t (subst (λ k. Next Spells t k w u) e n) r in
+      subst (λ k. Reads at ((w ++ []) ++ (s ++ u)) (tokens_of at ((k, w) ∷ []) ++ moved (length s) ts)) (sym e)
+      (subst (λ (x : Bytes). Reads at (x ++ (s ++ u)) (moved (length s) ts)) (sym (append-nil w)) l)
+  last_on at k w t n h ends r (inr other) =
+      let room = room_last k w h ends other in
+      piece_on at k w [] (one_on (at + length w) k w t u [] n Cut.none room.behind room.no_point r) (in_front s space (at + length w) u ts r)
+
+  behind : (at : ℕ) (t : Bytes) (ps : List Piece) → Cut t ps u → has_room ps ≡ true → ends_blank ps ≡ false → Reads (at + length (bytes_of ps)) u ts → Reads at (bytes_of ps ++ (s ++ u)) (tokens_of at ps ++ moved (length s) ts)
+  behind at t ps Cut.none h ends r = let e : at + 0 ≡ at = omega arith in in_front s space at u ts (subst (λ i. Reads i u ts) e r)
+  behind at t ps (Cut.more {kind = k} {w = w} n Cut.none) h ends r =
+      let e : at + length (w ++ []) ≡ at + length w = (let l = length-append w [] in omega arith) in
+      last_on at k w t n h ends (subst (λ i. Reads i u ts) e r) (is_line_item k)
+  behind at t ps (Cut.more {kind = k} {w = w} {rest = rest} n (Cut.more {kind = j} {w = v} {ps = qs} m c)) h ends r =
+      let d : Cut rest ((j, v) ∷ qs) u = Cut.more m c in
+      let room = rooms k w rest (j, v) qs u d h ends in
+      let e : at + length (w ++ (v ++ bytes_of qs)) ≡ at + length w + length (v ++ bytes_of qs) = (let l = length-append w (v ++ bytes_of qs) in omega arith) in
+      let later = behind (at + length w) rest ((j, v) ∷ qs) (Cut.more m c) room.later room.later_ends (subst (λ i. Reads i u ts) e r) in
+      piece_on at k w ((j, v) ∷ qs) (one_on (at + length (w ++ (v ++ bytes_of qs))) k w t rest ((j, v) ∷ qs) n d room.behind room.no_point r) later
 
   pub placed : (x : Bool) (at : ℕ) (t : Bytes) (ps : List Piece) → ends_blank ps ≡ x → Cut t ps u → has_room ps ≡ true → Reads (at + length (bytes_of ps)) u ts → Reads at (bytes_of ps ++ (s ++ u)) (tokens_of at ps ++ moved (length s) ts)
   placed true at t ps e c h r = behind_space at t ps c e r

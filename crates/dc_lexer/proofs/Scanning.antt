@@ -4,7 +4,7 @@ use Rattle.std.proofs.lemmas.List.{length-take-le}
 use Rattle.dc_token.specs.Balance.{Bytes}
 use Rattle.dc_token.proofs.Lists.{rests, drop_more}
 use Rattle.dc_lexer.specs.Fronts.{Found}
-use Rattle.dc_token.specs.Text.{mark_len, ReadsAs, StuckAt, IsTokens, IsUnreadable, Rebuilt, Reads, Stuck, is_token, token}
+use Rattle.dc_token.specs.Text.{mark_len, ReadsAs, StuckAt, IsTokens, IsUnreadable, Cut, Rebuilt, Reads, Stuck, is_token, token}
 use Rattle.dc_token.specs.Items.{Next, Spells}
 use Rattle.dc_lexer.proofs.Starts.{starts}
 use Rattle.dc_token.specs.declared.item.Item.{Item}
@@ -185,13 +185,13 @@ step_apart at n t k w rest m (Stuck.later {kind = j} {w = v} {rest = x} l s) =
     subst (λ (y : ℕ). Stuck (at + y) rest n) (next_size Spells t j k v w x rest l m) (subst (λ (y : Bytes). Stuck (at + length v) y n) (next_rest Spells t j k v w x rest l m) s)
 
 pub rebuilt : (at : ℕ) (t : Bytes) (ts : List Token) → Reads at t ts → Rebuilt at t ts
-rebuilt at t ts Reads.end = record { pieces = []; whole = refl; tokens = refl }
+rebuilt at t ts Reads.end = record { pieces = []; whole = refl; tokens = refl; cut = Cut.none }
 rebuilt at t ts (Reads.space {kind = k} {w = w} {rest = rest} n nay r) =
     let b = rebuilt (at + length w) rest ts r in
-    record { pieces = (k, w) ∷ b.pieces; whole = ap (λ (x : Bytes). w ++ x) b.whole ∙ sym n.parts; tokens = rw nay b.tokens }
+    record { pieces = (k, w) ∷ b.pieces; whole = ap (λ (x : Bytes). w ++ x) b.whole ∙ sym n.parts; tokens = rw nay b.tokens; cut = Cut.more n b.cut }
 rebuilt at t ts (Reads.token_then {kind = k} {w = w} {rest = rest} {ts = us} n yea r) =
     let b = rebuilt (at + length w) rest us r in
-    record { pieces = (k, w) ∷ b.pieces; whole = ap (λ (x : Bytes). w ++ x) b.whole ∙ sym n.parts; tokens = rw yea (ap (λ (x : List Token). token k w at ∷ x) b.tokens) }
+    record { pieces = (k, w) ∷ b.pieces; whole = ap (λ (x : Bytes). w ++ x) b.whole ∙ sym n.parts; tokens = rw yea (ap (λ (x : List Token). token k w at ∷ x) b.tokens); cut = Cut.more n b.cut }
 
 pub apart : (at n : ℕ) (t : Bytes) (ts : List Token) → Reads at t ts → Stuck at t n → ⊥
 apart at n t ts Reads.end s = end_unstuck at n [] refl s

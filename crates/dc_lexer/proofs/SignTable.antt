@@ -1,12 +1,11 @@
 -- The tests of signs byte by byte are the table of signs.
-use Rattle.std.proofs.Common.{◌≡◌, ℕ, Bool, true, false, ◌&&◌, ◌||◌, ◌==◌, ◌⊎◌, inl, inr, List, [], ◌∷◌, map, bytes_eq, ⊎_elim, refl, sym, subst, arith}
+use Rattle.std.proofs.Common.{◌≡◌, ℕ, Bool, true, false, ◌&&◌, ◌||◌, ◌==◌, ◌⊎◌, inl, inr, List, [], ◌∷◌, bytes_eq, ⊎_elim, refl, sym, subst, arith}
 use Rattle.std.proofs.lemmas.Bool.Decides.{nat_tests}
 use Rattle.std.proofs.lemmas.Bool.{and_parts}
 use Rattle.std.specs.List.{list_all, list_any}
 use Rattle.dc_token.specs.Balance.{Bytes}
 use Rattle.dc_token.specs.Vocabulary.{among}
-use Rattle.dc_token.specs.Signs.{used_signs, is_sign, is_outside_sign}
-use Rattle.dc_token.specs.declared.vocabulary.TheConstants.{OUTSIDE_SIGNS}
+use Rattle.dc_token.specs.Signs.{used_signs, outside_signs, is_sign, is_outside_sign}
 use Rattle.dc_lexer.specs.SignBytes.{singles, single, before_equals, takes_equals, doubled, doubles, double, triple, quadruple, is_sign_by_bytes}
 
 pub or_split : (x y : Bool) → x || y ≡ true → (x ≡ true) ⊎ (y ≡ true)
@@ -177,10 +176,10 @@ used_by_bytes : list_all is_sign_by_bytes used_signs ≡ true
 unfolding is_sign_by_bytes
 used_by_bytes = refl
 
-outside_by_bytes : list_all is_sign_by_bytes (map (λ x. x.now) OUTSIDE_SIGNS) ≡ true
+outside_by_bytes : list_all is_sign_by_bytes outside_signs ≡ true
 unfolding is_sign_by_bytes
 outside_by_bytes = refl
 
 pub by_bytes : (w : Bytes) → is_sign w ≡ true → is_sign_by_bytes w ≡ true
 unfolding is_sign is_outside_sign
-by_bytes w h = ⊎_elim (λ e. among_all used_signs w is_sign_by_bytes e used_by_bytes) (λ e. among_all (map (λ x. x.now) OUTSIDE_SIGNS) w is_sign_by_bytes e outside_by_bytes) (or_split (among used_signs w) (among (map (λ x. x.now) OUTSIDE_SIGNS) w) h)
+by_bytes w h = ⊎_elim (λ e. among_all used_signs w is_sign_by_bytes e used_by_bytes) (λ e. among_all outside_signs w is_sign_by_bytes e outside_by_bytes) (or_split (among used_signs w) (among outside_signs w) h)

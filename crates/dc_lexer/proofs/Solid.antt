@@ -1,5 +1,5 @@
 -- Items in which no white space stands, and fronts of a text that they are in.
-use Rattle.std.proofs.Common.{◌≡◌, ℕ, ◌+◌, ◌/◌, ◌%◌, ◌<◌, ◌≤◌, Bool, true, false, not, ◌&&◌, ◌||◌, ◌==◌, nat_le, List, [], ◌∷◌, ◌++◌, ◌⊎◌, inl, inr, length, drop, ⊎_elim, refl, sym, ap, subst, ◌∙◌, arith, nat_lt, if◌then◌else◌, map}
+use Rattle.std.proofs.Common.{◌≡◌, ℕ, ◌+◌, ◌/◌, ◌%◌, ◌<◌, ◌≤◌, Bool, true, false, not, ◌&&◌, ◌||◌, ◌==◌, nat_le, List, [], ◌∷◌, ◌++◌, ◌⊎◌, inl, inr, length, drop, ⊎_elim, refl, sym, ap, subst, ◌∙◌, arith, nat_lt, if◌then◌else◌}
 use Rattle.std.proofs.lemmas.Bool.{and_parts, cases_lt}
 use Rattle.std.proofs.lemmas.Bool.Decides.{nat_tests}
 use Rattle.std.proofs.lemmas.Str.{encode_ascii}
@@ -8,12 +8,11 @@ use Rattle.std.specs.Char.{encode_utf8, is_ascii_alphabetic, is_ascii_digit}
 use Rattle.std.specs.Str.{encode_utf8_all}
 use Rattle.dc_token.specs.Balance.{Bytes}
 use Rattle.dc_token.specs.Bytes.{Run, is_blank, is_word, is_digit_or_bar, is_hex_or_bar, is_binary_or_bar}
-use Rattle.dc_token.specs.Signs.{used_signs, is_sign, is_outside_sign}
+use Rattle.dc_token.specs.Signs.{used_signs, outside_signs, is_sign, is_outside_sign}
 use Rattle.dc_token.specs.Vocabulary.{starts_name, is_xid_continue, among}
 use Rattle.dc_token.specs.Numbers.{is_long, is_unsigned, is_number_suffix, is_exponent, is_power, is_hex_or_point}
 use Rattle.dc_token.specs.Names.{IsName}
 use Rattle.dc_token.specs.Items.{PlainSpells}
-use Rattle.dc_token.specs.declared.vocabulary.TheConstants.{OUTSIDE_SIGNS}
 use Rattle.dc_token.specs.declared.item.Item.{Item}
 use Rattle.dc_token.specs.declared.item.Item.TheVariants as item
 use Rattle.dc_token.proofs.Characters.{is_xid_start-ascii, is_xid_continue-ascii}
@@ -153,12 +152,12 @@ name_solid w n = rw n.parts (all_append is_solid (encode_utf8 n.first) (encode_u
 used_solid : list_all (λ (w : Bytes). list_all is_solid w) used_signs ≡ true
 used_solid = refl
 
-outside_solid : list_all (λ (w : Bytes). list_all is_solid w) (map (λ x. x.now) OUTSIDE_SIGNS) ≡ true
+outside_solid : list_all (λ (w : Bytes). list_all is_solid w) outside_signs ≡ true
 outside_solid = refl
 
 sign_solid : (w : Bytes) → is_sign w ≡ true → list_all is_solid w ≡ true
 unfolding is_sign is_outside_sign
-sign_solid w h = ⊎_elim (λ e. among_all used_signs w (λ (w : Bytes). list_all is_solid w) e used_solid) (λ e. among_all (map (λ x. x.now) OUTSIDE_SIGNS) w (λ (w : Bytes). list_all is_solid w) e outside_solid) (or_split (among used_signs w) (among (map (λ x. x.now) OUTSIDE_SIGNS) w) h)
+sign_solid w h = ⊎_elim (λ e. among_all used_signs w (λ (w : Bytes). list_all is_solid w) e used_solid) (λ e. among_all outside_signs w (λ (w : Bytes). list_all is_solid w) e outside_solid) (or_split (among used_signs w) (among outside_signs w) h)
 
 -- ---- the kinds that white space ends
 
@@ -271,12 +270,12 @@ is_long_plain w = nat_le (length w) 1 || list_all is_no_brace w
 used_no_brace : list_all is_long_plain used_signs ≡ true
 used_no_brace = refl
 
-outside_no_brace : list_all is_long_plain (map (λ x. x.now) OUTSIDE_SIGNS) ≡ true
+outside_no_brace : list_all is_long_plain outside_signs ≡ true
 outside_no_brace = refl
 
 sign_plain : (w : Bytes) → is_sign w ≡ true → is_long_plain w ≡ true
 unfolding is_sign is_outside_sign
-sign_plain w h = ⊎_elim (λ e. among_all used_signs w is_long_plain e used_no_brace) (λ e. among_all (map (λ x. x.now) OUTSIDE_SIGNS) w is_long_plain e outside_no_brace) (or_split (among used_signs w) (among (map (λ x. x.now) OUTSIDE_SIGNS) w) h)
+sign_plain w h = ⊎_elim (λ e. among_all used_signs w is_long_plain e used_no_brace) (λ e. among_all outside_signs w is_long_plain e outside_no_brace) (or_split (among used_signs w) (among outside_signs w) h)
 
 sign_no_brace : (w : Bytes) → is_sign w ≡ true → 1 < length w → list_all is_no_brace w ≡ true
 sign_no_brace w h long = ⊎_elim (λ e. absurd (short (length w) e long)) (λ e. e) (or_split (nat_le (length w) 1) (list_all is_no_brace w) (sign_plain w h))

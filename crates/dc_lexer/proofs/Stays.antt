@@ -36,7 +36,7 @@ module _ (b : Bytes) where
   some_old : (x u : Bytes) → 0 < length x → 0 < length (x ++ u)
   some_old x u h = let l = length-append x u in omega arith
 
-  stays : (k : Item) (w x u : Bytes) → Tail k w x u b → (k ≡ item.TokenString → IsTokenString w (x ++ u) → IsTokenString w (x ++ b)) → (goes_on k ≡ true → 0 < length x) → Spells k w (x ++ u) → Spells k w (x ++ b)
+  stays : (k : Item) (w x u : Bytes) → Tail k w x u b → (k ≡ item.TokenString → IsTokenString w (x ++ u) → IsTokenString w (x ++ b)) → (goes_on k w ≡ true → 0 < length x) → Spells k w (x ++ u) → Spells k w (x ++ b)
   stays item.Blank w x u f strings room s = s
   stays item.LineComment w x u f strings room s = s
   stays item.BlockComment w x u f strings room s = block_swapped w (x ++ u) (x ++ b) s
@@ -53,8 +53,8 @@ module _ (b : Bytes) where
   stays item.Quoted w x u f strings room s = string_stays (34 ∷ []) 34 true quoted_escapes w (x ++ u) (x ++ b) s
   stays item.Backquoted w x u f strings room s = string_stays (96 ∷ []) 96 false (no_escapes 96) w (x ++ u) (x ++ b) s
   stays item.Raw w x u f strings room s = string_stays (114 ∷ 34 ∷ []) 34 false (no_escapes 34) w (x ++ u) (x ++ b) s
-  stays item.Delimited w x u f strings room s = quote_stays 113 w (x ++ u) (x ++ b) (some_old x u (room refl)) s
-  stays item.HexString w x u f strings room s = quote_stays 120 w (x ++ u) (x ++ b) (some_old x u (room refl)) s
+  stays item.Delimited w x u f strings room s = quote_stays 113 w (x ++ u) (x ++ b) (λ o. some_old x u (room o)) s
+  stays item.HexString w x u f strings room s = quote_stays 120 w (x ++ u) (x ++ b) (λ o. some_old x u (room o)) s
   stays item.TokenString w x u f strings room s = strings refl s
 
   -- ---- and no longer item of its kind begins there
@@ -96,7 +96,7 @@ module _ (b : Bytes) where
   none_more : (k : Item) (w x u : Bytes) → Next Spells (w ++ (x ++ u)) k w (x ++ u) → allows (w ++ (x ++ u)) k ≡ true → (h : ℕ) (x2 : Bytes) → x ≡ h ∷ x2 → (Spells k (w ++ (h ∷ [])) (x2 ++ u)) → (allows ((w ++ (h ∷ [])) ++ (x2 ++ u)) k ≡ true) → ⊥
   none_more k w x u n a h x2 e s b = no_more k w x2 u h (subst (λ (y : Bytes). Next Spells (w ++ (y ++ u)) k w (y ++ u)) e n) k (record { spells = s; allowed = b })
 
-  same_kind : (k : Item) (w x u v y : Bytes) → Next Spells (w ++ (x ++ u)) k w (x ++ u) → Tail k w x u b → (k ≡ item.TokenString → IsTokenString w (x ++ u) → IsTokenString w (x ++ b)) → is_closed k ≡ true → (goes_on k ≡ true → 0 < length x) → w ++ (x ++ b) ≡ v ++ y → Spells k v y → length w < length v → ⊥
+  same_kind : (k : Item) (w x u v y : Bytes) → Next Spells (w ++ (x ++ u)) k w (x ++ u) → Tail k w x u b → (k ≡ item.TokenString → IsTokenString w (x ++ u) → IsTokenString w (x ++ b)) → is_closed k ≡ true → (goes_on k w ≡ true → 0 < length x) → w ++ (x ++ b) ≡ v ++ y → Spells k v y → length w < length v → ⊥
   same_kind item.Blank w x u v y n f strings closed room e s longer = blank_only w x u v y n (room refl) e s longer
   same_kind item.LineComment w x u v y n f strings closed room e s longer = line_only w x u v y n (room refl) e s longer
   same_kind item.BlockComment w x u v y n f strings closed room e s longer =
@@ -111,9 +111,9 @@ module _ (b : Bytes) where
   same_kind item.Backquoted w x u v y n f strings closed room e s longer = string_only (96 ∷ []) 96 false (no_escapes 96) w x u v y n.is.spells (λ h x2 i t. none_more item.Backquoted w x u n n.is.allowed h x2 i t refl) (λ i h y r. (f.stops i h y r).0) e s longer
   same_kind item.Raw w x u v y n f strings closed room e s longer = string_only (114 ∷ 34 ∷ []) 34 false (no_escapes 34) w x u v y n.is.spells (λ h x2 i t. none_more item.Raw w x u n n.is.allowed h x2 i t refl) (λ i h y r. (f.stops i h y r).0) e s longer
   same_kind item.Delimited w x u v y n f strings closed room e s longer =
-      let short = quote_only 113 w (x ++ b) v y f.some (quote_stays 113 w (x ++ u) (x ++ b) (some_old x u (room refl)) n.is.spells) s e in absurd (omega arith)
+      let short = quote_only 113 w (x ++ b) v y (λ o. f.some) (quote_stays 113 w (x ++ u) (x ++ b) (λ o. some_old x u (room o)) n.is.spells) s e in absurd (omega arith)
   same_kind item.HexString w x u v y n f strings closed room e s longer =
-      let short = quote_only 120 w (x ++ b) v y f.some (quote_stays 120 w (x ++ u) (x ++ b) (some_old x u (room refl)) n.is.spells) s e in absurd (omega arith)
+      let short = quote_only 120 w (x ++ b) v y (λ o. f.some) (quote_stays 120 w (x ++ u) (x ++ b) (λ o. some_old x u (room o)) n.is.spells) s e in absurd (omega arith)
   same_kind item.TokenString w x u v y n f strings closed room e s longer =
       let r = string_one (w ++ (x ++ b)) w (x ++ b) v y refl e (strings refl n.is.spells) s in
       let short = same_rest_length w v (x ++ b) y e r in absurd (omega arith)
@@ -146,7 +146,7 @@ module _ (b : Bytes) where
   lean_or_closed item.Sign = inl refl
   lean_or_closed other = inr refl
 
-  module _ (k : Item) (w x u : Bytes) (n : Next Spells (w ++ (x ++ u)) k w (x ++ u)) (f : Tail k w x u b) (strings : k ≡ item.TokenString → IsTokenString w (x ++ u) → IsTokenString w (x ++ b)) (room : goes_on k ≡ true → 0 < length x) where
+  module _ (k : Item) (w x u : Bytes) (n : Next Spells (w ++ (x ++ u)) k w (x ++ u)) (f : Tail k w x u b) (strings : k ≡ item.TokenString → IsTokenString w (x ++ u) → IsTokenString w (x ++ b)) (room : goes_on k w ≡ true → 0 < length x) where
     here : IsItem Spells k w (x ++ b)
     here = record { spells = stays k w x u f strings room n.is.spells; allowed = f.allowed n.is.allowed }
 

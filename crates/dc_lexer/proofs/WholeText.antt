@@ -5,21 +5,21 @@ use Rattle.std.proofs.Math.Seq.{take-append_seam, drop-append_seam}
 use Rattle.std.specs.List.{list_all}
 use Rattle.dc_token.specs.Balance.{Bytes}
 use Rattle.dc_token.specs.Bytes.{is_blank}
-use Rattle.dc_token.specs.Text.{Piece, bytes_of, tokens_of, is_token, token, Reads, mark_len, ReadsAs}
+use Rattle.dc_token.specs.Text.{Piece, Cut, bytes_of, tokens_of, is_token, token, Reads, mark_len, ReadsAs}
 use Rattle.dc_token.specs.declared.token.Token.{Token}
-use Rattle.dc_lexer.specs.Cuts.{Cut, has_room, IsSpace, moved, with_space, count, SpaceMoves}
+use Rattle.dc_lexer.specs.Cuts.{has_room, IsSpace, moved, with_space, count, SpaceMoves}
 use Rattle.dc_lexer.proofs.SignTable.{equal}
 use Rattle.dc_lexer.proofs.OneKind.{then_space, then_token}
 use Rattle.dc_lexer.proofs.Placed.{cut_parts, ends_blank, placed}
 
 -- ---- the tokens of pieces are the first ones
 
-record Read (at : ℕ) (ps : List Piece) (u : Bytes) (ts : List Token) : Type 0 where
-  rest : List Token
-  parts : ts ≡ tokens_of at ps ++ rest
-  reads : Reads (at + length (bytes_of ps)) u rest
+pub record Read (at : ℕ) (ps : List Piece) (u : Bytes) (ts : List Token) : Type 0 where
+  pub rest : List Token
+  pub parts : ts ≡ tokens_of at ps ++ rest
+  pub reads : Reads (at + length (bytes_of ps)) u rest
 
-cut_reads : (at : ℕ) (t : Bytes) (ps : List Piece) (u : Bytes) → Cut t ps u → (ts : List Token) → Reads at t ts → Read at ps u ts
+pub cut_reads : (at : ℕ) (t : Bytes) (ps : List Piece) (u : Bytes) → Cut t ps u → (ts : List Token) → Reads at t ts → Read at ps u ts
 cut_reads at t ps u Cut.none ts r = let e : at ≡ at + 0 = omega arith in record { rest = ts; parts = refl; reads = subst (λ i. Reads i u ts) e r }
 cut_reads at t ps u (Cut.more {kind = k} {w = w} {rest = rest} {ps = qs} n c) ts r = by (is_token k) refl (cut_reads (at + length w) rest qs u c)
   where
@@ -35,7 +35,7 @@ cut_reads at t ps u (Cut.more {kind = k} {w = w} {rest = rest} {ps = qs} n c) ts
         let l = later ts (then_space at t k w rest ts n nay r) in
         record { rest = l.rest; parts = rw nay l.parts; reads = subst (λ i. Reads i u l.rest) size l.reads }
 
-counted : (at : ℕ) (ps : List Piece) → length (tokens_of at ps) ≡ count ps
+pub counted : (at : ℕ) (ps : List Piece) → length (tokens_of at ps) ≡ count ps
 counted at [] = refl
 counted at (p ∷ ps) = by (is_token p.0) (counted (at + length p.1) ps)
   where
@@ -74,14 +74,14 @@ no_mark (g ∷ h ∷ []) u z c b e = rw (no_marks g h c (record { is = inr (inr 
 no_mark (g ∷ h ∷ i ∷ p) u z c b e = e
 
 -- a text has the mark or not
-record Marked (text : Bytes) : Type 0 where
-  rest : Bytes
-  parts : text ≡ 239 ∷ 187 ∷ 191 ∷ rest
+pub record Marked (text : Bytes) : Type 0 where
+  pub rest : Bytes
+  pub parts : text ≡ 239 ∷ 187 ∷ 191 ∷ rest
 
 abbrev three_or_none : Bool → ℕ
 three_or_none x = if x then 3 else 0
 
-mark_or : (text : Bytes) → (mark_len text ≡ 0) ⊎ Marked text
+pub mark_or : (text : Bytes) → (mark_len text ≡ 0) ⊎ Marked text
 mark_or [] = inl refl
 mark_or (a ∷ []) = inl refl
 mark_or (a ∷ b ∷ []) = inl refl
@@ -93,6 +93,15 @@ mark_or (a ∷ b ∷ c ∷ t) = by (a == 239 && b == 187 && c == 191) refl
         let p = and_parts (a == 239 && b == 187) (c == 191) e in
         let q = and_parts (a == 239) (b == 187) p.0 in
         inr (record { rest = t; parts = (let i = equal a 239 q.0 in let j = equal b 187 q.1 in let k = equal c 191 p.1 in cc) })
+
+pub stays_unmarked : (s : Bytes) → IsSpace s → (ps : List Piece) (u text : Bytes) → mark_len text ≡ 0 → Cut text ps u → mark_len (bytes_of ps ++ (s ++ u)) ≡ 0
+stays_unmarked s space ps u text none c = by s refl space.some space.blank
+  where
+    by : (x : Bytes) → s ≡ x → 0 < length x → list_all is_blank x ≡ true → mark_len (bytes_of ps ++ (s ++ u)) ≡ 0
+    by [] e some all = absurd (omega arith)
+    by (b ∷ x) e some all =
+        let old : mark_len (bytes_of ps ++ u) ≡ 0 = ap mark_len (sym (cut_parts text ps u c)) ∙ none in
+        ap (λ (y : Bytes). mark_len (bytes_of ps ++ (y ++ u))) e ∙ no_mark (bytes_of ps) u (x ++ u) b (and_parts (is_blank b) (list_all is_blank x) all).0 old
 
 -- ---- the law
 
@@ -112,15 +121,9 @@ module _ (s : Bytes) (space : IsSpace s) (ps : List Piece) (u : Bytes) (room : h
   unmarked text ts none r c =
       let r0 : Reads 0 text ts = subst (λ i. Reads i (drop i text) ts) none r in
       let c0 : Cut text ps u = subst (λ i. Cut (drop i text) ps u) none c in
-      let m = new c0 s refl space.some space.blank in
+      let m = stays_unmarked s space ps u text none c0 in
       subst (λ i. ReadsAs (take i text ++ (bytes_of ps ++ (s ++ u))) (take (count ps) ts ++ moved (length s) (drop (count ps) ts))) (sym none)
       (subst (λ i. Reads i (drop i (bytes_of ps ++ (s ++ u))) (take (count ps) ts ++ moved (length s) (drop (count ps) ts))) (sym m) (from 0 text ts r0 c0))
-    where
-      new : Cut text ps u → (x : Bytes) → s ≡ x → 0 < length x → list_all is_blank x ≡ true → mark_len (bytes_of ps ++ (s ++ u)) ≡ 0
-      new c0 [] e some all = absurd (omega arith)
-      new c0 (b ∷ x) e some all =
-          let old : mark_len (bytes_of ps ++ u) ≡ 0 = ap mark_len (sym (cut_parts text ps u c0)) ∙ none in
-          ap (λ (y : Bytes). mark_len (bytes_of ps ++ (y ++ u))) e ∙ no_mark (bytes_of ps) u (x ++ u) b (and_parts (is_blank b) (list_all is_blank x) all).0 old
 
   marked : (rest : Bytes) (ts : List Token) → ReadsAs (239 ∷ 187 ∷ 191 ∷ rest) ts → Cut rest ps u → ReadsAs (with_space (239 ∷ 187 ∷ 191 ∷ rest) ps s u) (take (count ps) ts ++ moved (length s) (drop (count ps) ts))
   marked rest ts r c = from 3 rest ts r c

@@ -2,41 +2,34 @@
 use Rattle.std.specs.Prelude.{◌≡◌, ◌<◌, ℕ, ◌+◌, Bool, true, false, not, ◌&&◌, ◌==◌, if◌then◌else◌, List, [], ◌∷◌, ◌++◌, length, take, drop, map}
 use Rattle.std.specs.List.{list_all}
 use Rattle.dc_token.specs.Balance.{Bytes}
-use Rattle.dc_token.specs.Bytes.{is_blank}
-use Rattle.dc_token.specs.Items.{Next, Spells}
-use Rattle.dc_token.specs.Text.{Piece, bytes_of, is_token, mark_len, ReadsAs}
+use Rattle.dc_token.specs.Bytes.{is_blank, is_digit_or_bar, is_not_quote}
+use Rattle.dc_token.specs.Text.{Piece, Cut, bytes_of, is_token, mark_len, ReadsAs}
 use Rattle.dc_token.specs.declared.item.Item.{Item}
 use Rattle.dc_token.specs.declared.item.Item.TheVariants as item
 use Rattle.dc_token.specs.declared.token.Token.{Token}
 
--- From its front on, the text is cut into these pieces, and the last text is left.
-pub data Cut : Bytes → List Piece → Bytes → Type 0 where
-  none : {t : Bytes} → Cut t [] t
-  more : {t : Bytes} {kind : Item} {w rest : Bytes} {ps : List Piece} {u : Bytes} → Next Spells t kind w rest → Cut rest ps u → Cut t ((kind, w) ∷ ps) u
-
--- A comment up to the end of its line takes up white space that follows, and so does `q"` or `x"` where it is unfinished.
-abbrev pub takes_space : Item → Bool
-takes_space item.LineComment = true
-takes_space item.Delimited = true
-takes_space item.HexString = true
-takes_space other = false
+-- `q"` or `x"` without a second quote runs to the end of the text, and takes up white space that is added there.
+abbrev pub is_unfinished : Item → Bytes → Bool
+is_unfinished item.Delimited w = list_all is_not_quote (drop 2 w)
+is_unfinished item.HexString w = list_all is_not_quote (drop 2 w)
+is_unfinished other w = false
 
 abbrev pub is_point : Bytes → Bool
 is_point [] = false
 is_point (b ∷ []) = b == 46
 is_point (b ∷ c ∷ w) = false
 
--- `1` and a `.` directly behind it, which are a float where white space follows
+-- A decimal integer without a suffix and a `.` directly behind it, which are one float where white space follows: `1.x` is
+-- three tokens, and `1. x` two.
 abbrev pub is_float_apart : Piece → Piece → Bool
-is_float_apart (item.Decimal, w) q = is_point q.1
+is_float_apart (item.Decimal, w) q = list_all is_digit_or_bar w && is_point q.1
 is_float_apart p q = false
 
--- White space may be added behind these pieces: they end neither with an item that takes it up nor with a `.` directly
--- behind a decimal integer.
+-- White space may be added behind these pieces: they end neither with an unfinished string nor with such a `.`.
 abbrev pub has_room : List Piece → Bool
 has_room [] = true
-has_room (p ∷ []) = not (takes_space p.0)
-has_room (p ∷ q ∷ []) = not (takes_space q.0) && not (is_float_apart p q)
+has_room (p ∷ []) = not (is_unfinished p.0 p.1)
+has_room (p ∷ q ∷ []) = not (is_unfinished q.0 q.1) && not (is_float_apart p q)
 has_room (p ∷ q ∷ r ∷ ps) = has_room (q ∷ r ∷ ps)
 
 pub record IsSpace (s : Bytes) : Type 0 where
@@ -61,3 +54,8 @@ count (p ∷ ps) = if is_token p.0 then 1 + count ps else count ps
 abbrev pub SpaceMoves : Type 0
 SpaceMoves = (text : Bytes) (ts : List Token) (ps : List Piece) (u s : Bytes) → ReadsAs text ts → Cut (drop (mark_len text) text) ps u → has_room ps ≡ true → IsSpace s
     → ReadsAs (with_space text ps s u) (take (count ps) ts ++ moved (length s) (drop (count ps) ts))
+
+-- Where there is no room, white space that is added doesn't leave the tokens so.
+abbrev pub RoomNeeded : Type 0
+RoomNeeded = (text : Bytes) (ts : List Token) (ps : List Piece) (u s : Bytes) → ReadsAs text ts → Cut (drop (mark_len text) text) ps u → has_room ps ≡ false → IsSpace s
+    → ReadsAs (with_space text ps s u) (take (count ps) ts ++ moved (length s) (drop (count ps) ts)) → ⊥

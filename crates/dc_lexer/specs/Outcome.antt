@@ -1,12 +1,17 @@
 -- What the lexer answers.
-use Rattle.std.specs.Prelude.{◌≡◌, ℕ, [], ◌∷◌, ◌++◌}
+use Rattle.std.specs.Prelude.{◌≡◌, ℕ, List, [], ◌∷◌, ◌++◌}
 use Rattle.dc_token.specs.Balance.{Bytes}
-use Rattle.dc_token.specs.Text.{IsUnreadable}
+use Rattle.dc_token.specs.Text.{IsTokens, IsUnreadable}
+use Rattle.dc_token.specs.declared.token.Token.{Token}
 use Rattle.dc_types.specs.declared.place.Place.{Place}
 use Rattle.dc_types.specs.declared.place.Step.TheVariants as step
 use Rattle.dc_types.specs.declared.refusal.Fail.{Fail}
 use Rattle.dc_types.specs.declared.refusal.Fail.TheVariants.{Refused, NoMemory}
 use Rattle.dc_types.specs.declared.refusal.Refusal.{Refusal}
+
+-- some list is that of the tokens of the text
+abbrev pub HasTokens : Bytes → Type 0
+HasTokens text = (ts : List Token) × IsTokens text ts
 
 -- an offset in the text at a place
 abbrev pub place_in : Place → ℕ → Place

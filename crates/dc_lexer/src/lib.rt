@@ -15,5 +15,5 @@ mod string;
 mod tests;
 mod token_string;
 
-pub use scan::{laws, lex};
+pub use scan::{first_unreadable, laws, lex};
 pub use spaces::space_moves;

@@ -1,5 +1,5 @@
 // The tokens of a text.
-ghost use Rattle.std.specs.Prelude.{◌≡◌, ◌≤◌, ◌-◌, length, take, drop, IfOk, IfErr};
+ghost use Rattle.std.specs.Prelude.{◌≡◌, ◌≤◌, ◌-◌, length, take, drop, IfOk, IfErr, IfSome, None};
 ghost use Rattle.dc_token.specs.Items as items;
 ghost use Rattle.dc_token.specs.Text as text;
 ghost use Rattle.dc_lexer.specs.Outcome as outcome;
@@ -87,10 +87,30 @@ pub fn lex(alloc: Global, bytes: &[u8], at: &Place) -> Result<Tokens, Fail>
     Ok(tokens)
 }
 
-/// Laws of the definition: tokens, white space and comments make the text again; a text has at most one list of tokens
-/// and at most one offset at which it is unreadable, and never both; token strings hold items of every kind.
+/// The first offset at which no item begins, or nothing where the text has tokens. It takes no memory and has an answer
+/// for each text, so each has tokens or such an offset.
+pub fn first_unreadable(bytes: &[u8]) -> Option<usize>
+    ensures tokens { result ≡ None → outcome.HasTokens bytes.now }
+    ensures offset { IfSome result (λ at. text.IsUnreadable bytes.now at) }
+    ensures divides { text.Divides bytes.now }
+{
+    let mut from = mark_len(bytes);
+    while from < bytes.len() {
+        let (_, len) = next_item(&bytes[from..]);
+        if len == 0 {
+            return Some(from);
+        }
+        from += len;
+    }
+    None
+}
+
+/// Laws of the definition: tokens, white space and comments make the text again; nothing but these stands before,
+/// between and behind the tokens; a text has at most one list of tokens and at most one offset at which it is unreadable,
+/// and never both; token strings hold items of every kind.
 pub fn laws()
     ensures rebuilds { text.Rebuilds }
+    ensures gaps { text.GapsBetween }
     ensures one_reading { text.OneReading }
     ensures one_stop { text.OneStop }
     ensures apart { text.Apart }

@@ -1,5 +1,5 @@
 -- The machine follows calls.
-use Rattle.std.proofs.Common.{◌≡◌, ℕ, zero, suc, ◌+◌, ◌-◌, ◌≤◌, Bool, true, false, not, ◌||◌, List, [], ◌∷◌, ◌++◌, length, map, drop, replicate, Some, refl, sym, ap, ap₂, ◌∙◌, subst, arith, append_assoc, length-append, length-drop, IsTrue, true≢false, pos}
+use Rattle.std.proofs.Common.{◌≡◌, ℕ, zero, suc, ◌+◌, ◌-◌, ◌≤◌, Bool, true, false, not, ◌&&◌, ◌||◌, List, [], ◌∷◌, ◌++◌, length, map, drop, replicate, Some, refl, sym, ap, ap₂, ◌∙◌, subst, arith, append_assoc, length-append, length-drop, IsTrue, true≢false, pos}
 use Rattle.std.specs.Prelude.{slice_get, if◌then◌else◌}
 use Rattle.std.proofs.lemmas.List.{length-replicate, replicate-append-replicate}
 use Rattle.dc_types.specs.declared.kind.Kind.{Kind}
@@ -26,12 +26,13 @@ use Rattle.dc_code.specs.declared.instr.Op.TheVariants as op
 use Rattle.dc_code.specs.declared.run.Nest.{Nest}
 use Rattle.dc_code.specs.declared.code.Draft.{Draft}
 use Rattle.dc_tree.specs.Values.{nothing}
-use Rattle.dc_tree.specs.Weight.{body_weight, stmt_weight_step, stmt_weight, stmts_weight}
+use Rattle.dc_tree.specs.Weight.{sum, body_weight, stmt_weight_step, stmt_weight, stmts_weight}
 use Rattle.dc_tree.specs.Meaning.{State, Ran, Goes, Over, Trapped, and_then, Flow, Next, Back, Opened, is_too_deep, within, handed, frame, body_at, result_of, enter, calls_of, stmts_meaning}
-use Rattle.dc_tree.specs.Typed.{is_void, is_number, are_numbers, all_of, completes, types_of, variables_of, IsTyped}
+use Rattle.dc_tree.specs.Typed.{is_void, is_number, are_numbers, all_of, completes_step, completes, types_of, variables_of, IsTyped}
 use Rattle.dc_tree.specs.declared.tree.Variable.{Variable}
 use Rattle.dc_tree.specs.declared.stmt.Stmt.{Stmt}
 use Rattle.dc_tree.specs.declared.stmt.Stmt.TheOpen.{Stmt-F}
+use Rattle.dc_tree.specs.declared.stmt.Stmt.TheViews.{roll-Stmt}
 use Rattle.dc_tree.specs.declared.stmt.Stmt.TheFolds.{map-Stmt, fold-roll-Stmt, ind-Stmt}
 use Rattle.dc_tree.specs.declared.body.Body.{Body}
 use Rattle.dc_lower_expr.specs.Lowered.{instr, no_code, then_ops, call_ops}
@@ -108,21 +109,40 @@ module _ (code : Draft) (limits : Limits) (nest : Nest) (h : Here) (vars : List 
     by_void true e = subst (λ x. Ends x place) (sym (void_is rt e)) (void_end place)
     by_void false e = let k = number_is rt (subst (λ b. IsTrue (b || is_number rt)) e t) in subst (λ x. Ends x place) (sym k.1) (number_end place k.0)
 
-step_weight : (x : Stmt-F ℕ) → 8 ≤ stmt_weight_step x
-step_weight (Stmt-F.Eval e) = omega arith
-step_weight (Stmt-F.Declare v e) = omega arith
-step_weight (Stmt-F.Block stmts) = omega arith
-step_weight (Stmt-F.If place e one other) = omega arith
-step_weight (Stmt-F.While place e body) = omega arith
-step_weight (Stmt-F.Return place e) = omega arith
+-- a statement that doesn't come to its end weighs something
+abbrev Weighs : Stmt → Type 0
+Weighs e = IsTrue (not (completes e)) → 8 ≤ stmt_weight e
 
-pub some_weight : (e : Stmt) → 8 ≤ stmt_weight e
-some_weight = ind-Stmt (λ e. 8 ≤ stmt_weight e) (λ x y is. subst (λ n. 8 ≤ n) (sym (fold-roll-Stmt ℕ stmt_weight_step x)) (step_weight (map-Stmt Stmt ℕ stmt_weight x)))
+module _ {Y : Type 0} (p : Y → Stmt) (h : (y : Y) → Weighs (p y)) where
+  some_of : (ys : List Y) → IsTrue (not (all_of (map completes (map p ys)))) → 8 ≤ sum (map stmt_weight (map p ys))
+  some_of [] t = absurd (true≢false (sym t))
+  some_of (y ∷ ys) t = by_test (some_of ys) (completes (p y)) refl where
+    by_test : (IsTrue (not (all_of (map completes (map p ys)))) → 8 ≤ sum (map stmt_weight (map p ys))) → (b : Bool) → completes (p y) ≡ b → 8 ≤ sum (map stmt_weight (map p (y ∷ ys)))
+    by_test next true e = let more = next (subst (λ b. IsTrue (not (b && all_of (map completes (map p ys))))) e t) in omega (arith, more)
+    by_test next false e = let here = h y (ap not e) in omega (arith, here)
+
+  some_layer : (y : Stmt-F Y) → IsTrue (not (completes_step (map-Stmt Stmt Bool completes (map-Stmt Y Stmt p y)))) → 8 ≤ stmt_weight_step (map-Stmt Stmt ℕ stmt_weight (map-Stmt Y Stmt p y))
+  some_layer (Stmt-F.Eval e) t = omega arith
+  some_layer (Stmt-F.Declare v e) t = omega arith
+  some_layer (Stmt-F.Block stmts) t = omega arith
+  some_layer (Stmt-F.If place [] last) t = omega (arith, some_of last t)
+  some_layer (Stmt-F.If place (b ∷ bs) last) t = omega arith
+  some_layer (Stmt-F.While place e body) t = omega arith
+  some_layer (Stmt-F.Return place e) t = omega arith
+
+some_rolled : (x : Stmt-F Stmt) → (IsTrue (not (completes_step (map-Stmt Stmt Bool completes x))) → 8 ≤ stmt_weight_step (map-Stmt Stmt ℕ stmt_weight x)) → Weighs (roll-Stmt x)
+some_rolled x h t = subst (λ n. 8 ≤ n) (sym (fold-roll-Stmt ℕ stmt_weight_step x)) (h (subst (λ b. IsTrue (not b)) (fold-roll-Stmt Bool completes_step x) t))
+
+some_weight : (e : Stmt) → Weighs e
+some_weight = ind-Stmt Weighs (λ x y is. subst (λ z. Weighs (roll-Stmt z)) is (some_rolled _ (some_layer (λ e. e.0) (λ e. e.1) y)))
 
 -- a function that doesn't come to its end has a statement
 some_stmts : (stmts : List Stmt) → IsTrue (not (all_of (map completes stmts))) → 8 ≤ stmts_weight stmts
 some_stmts [] t = absurd (true≢false (sym t))
-some_stmts (e ∷ es) t = omega (arith, some_weight e)
+some_stmts (e ∷ es) t = by_test (some_stmts es) (completes e) refl where
+  by_test : (IsTrue (not (all_of (map completes es))) → 8 ≤ stmts_weight es) → (b : Bool) → completes e ≡ b → 8 ≤ stmts_weight (e ∷ es)
+  by_test next true is = let more = next (subst (λ b. IsTrue (not (b && all_of (map completes es)))) is t) in omega (arith, more)
+  by_test next false is = let here = some_weight e (ap not is) in omega (arith, here)
 
 room_at : (x : Ty-F Ty) → end_room x ≤ 5
 room_at (Ty-F.Int k) = omega arith

@@ -19,8 +19,8 @@ use Rattle.dc_code.specs.declared.code.Draft.{Draft}
 use Rattle.dc_tree.specs.Values.{int, void}
 use Rattle.dc_tree.specs.Weight.{tree_weight}
 use Rattle.dc_tree.specs.Meaning.{End, Gave, Trapped, Bound, Missing, Ran, Goes, Over, body_at, calls_of, no_calls, tree_meaning, begun, outcome, meaning}
-use Rattle.dc_tree.specs.Typed.{is_of, is_typed, is_among, are_of, are_numbers, takes, constant_fits, right_kind, types_of, type_step, type_of, IsTyped, IsTypedStart}
-use Rattle.dc_tree.specs.Nodes.{own_type_by, own_type, place_of}
+use Rattle.dc_tree.specs.Typed.{is_of, is_typed, is_among, are_of, are_numbers, takes, constant_fits, operands_fit, types_of, type_step, type_of, IsTyped, IsTypedStart}
+use Rattle.dc_tree.specs.Nodes.{own_type_by, own_type, place_of, operation_with}
 use Rattle.dc_tree.specs.declared.tree.Variable.{Variable}
 use Rattle.dc_tree.specs.declared.tree.Tree.{Tree}
 use Rattle.dc_tree.specs.declared.tree.Tree.TheOpen.{Tree-F}
@@ -45,7 +45,7 @@ step_type : (bodies : List Body) (vars : List Variable) (x : Tree-F Tree) (ty : 
 step_type bodies vars (Tree-F.Constant place c) ty t = (typed_is (constant_fits c) c.ty ty t).1
 step_type bodies vars (Tree-F.Local place v) ty t = (typed_is (is_among v vars) v.ty ty t).1
 step_type bodies vars (Tree-F.Assign place v e) ty t = (typed_is (is_among v vars && is_of v.ty (type_of bodies vars e)) v.ty ty t).1
-step_type bodies vars (Tree-F.Binary place o k a b) ty t = (typed_is (is_of (int k) (type_of bodies vars a) && is_of (int (right_kind o k)) (type_of bodies vars b)) (int k) ty t).1
+step_type bodies vars (Tree-F.Chain place k first rest) ty t = (typed_is (is_of (int k) (type_of bodies vars first) && operands_fit k (map (operation_with (type_of bodies vars)) rest)) (int k) ty t).1
 step_type bodies vars (Tree-F.Compare place o k a b) ty t = (typed_is (is_of (int k) (type_of bodies vars a) && is_of (int k) (type_of bodies vars b)) (int kind.Bool) ty t).1
 step_type bodies vars (Tree-F.Call place f found args) ty t = (typed_is (takes (body_at bodies f) found (map (type_of bodies vars) args)) found ty t).1
 step_type bodies vars (Tree-F.Print place tys args line) ty t = (typed_is (are_of tys (map (type_of bodies vars) args) && are_numbers tys) void ty t).1

@@ -25,7 +25,7 @@ use Rattle.dc_tree.specs.Weight.{sum}
 use Rattle.dc_tree.specs.Meaning.{State, End, Bound, Ran, Goes, Over, Part, and_then, tick_by, tick, Flow, Next, Back, next_or, block, turns}
 use Rattle.dc_tree.specs.Typed.{Each}
 use Rattle.dc_tree.specs.declared.tree.Variable.{Variable}
-use Rattle.dc_lower_expr.specs.Lowered.{Codes, instr, then_ops}
+use Rattle.dc_lower_expr.specs.Lowered.{Codes, instr, block_code, then_ops}
 use Rattle.dc_lower_expr.specs.Frames.{word, fine_at, words_at}
 use Rattle.dc_lower_expr.proofs.Steps.{HasAt, has_front, has_back, Leads, here, leads, one}
 use Rattle.dc_lower_expr.proofs.Seams.{take_more}
@@ -33,7 +33,7 @@ use Rattle.dc_lower_expr.proofs.Words.{zero_test}
 use Rattle.dc_lower_expr.proofs.Locals.{words_of, Good}
 use Rattle.dc_lower_expr.proofs.Follow.{Here, front, having, at, Ended, ended_after, Form, value, fixed, front_length, M, Went, bind, Follows, operand}
 use Rattle.dc_lower_expr.proofs.Ops.{number}
-use Rattle.dc_lower.specs.Lowered.{block_code, if_code, while_code, return_ops}
+use Rattle.dc_lower.specs.Lowered.{if_code, while_code, return_ops}
 
 module _ (code : Draft) (limits : Limits) (nest : Nest) (h : Here) (vars : List Variable) (result : Ty-F Ty) where
   abbrev At : ℕ → ℕ → State → List ℕ → Run

@@ -6,7 +6,10 @@ pub mod Calls
 pub mod Entries
 pub mod Tables
 pub mod Loops
+pub mod Branches
 pub mod Made
 pub mod Joined
 pub mod PlaceEquality
 pub mod Numbering
+pub mod Fits
+pub mod Soundness

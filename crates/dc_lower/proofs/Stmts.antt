@@ -10,34 +10,36 @@ use Rattle.dc_types.specs.Exact.{ty-Decides}
 use Rattle.dc_code.specs.declared.run.Nest.{Nest}
 use Rattle.dc_code.specs.declared.code.Draft.{Draft}
 use Rattle.dc_tree.specs.Values.{void, nothing}
-use Rattle.dc_tree.specs.Weight.{sum, tree_weight, stmt_weight_step, stmt_weight, stmts_weight}
-use Rattle.dc_tree.specs.Meaning.{Part, Goes, Calls, Flow, Next, Back, and_then, assigned, block, body_at, tree_meaning, stmt_step, stmt_meaning, stmts_meaning}
-use Rattle.dc_tree.specs.Typed.{Each, all_of, is_of, is_void, is_number, are_numbers, is_among, is_typed, is_condition, type_at, types_of, type_of, stmt_typed_step, stmt_typed, stmts_typed}
+use Rattle.dc_tree.specs.Weight.{sum, branches_weight, tree_weight, stmt_weight_step, stmt_weight, stmts_weight}
+use Rattle.dc_tree.specs.Meaning.{Part, Goes, Calls, Flow, Next, Back, and_then, assigned, block, branched, body_at, tree_meaning, stmt_step, stmt_meaning, stmts_meaning}
+use Rattle.dc_tree.specs.Nodes.{branch_with}
+use Rattle.dc_tree.specs.Typed.{Each, all_of, is_of, is_void, is_number, are_numbers, is_among, is_typed, is_condition, type_at, types_of, type_of, branches_typed, stmt_typed_step, stmt_typed, stmts_typed}
 use Rattle.dc_tree.specs.declared.tree.Variable.{Variable}
 use Rattle.dc_tree.specs.declared.tree.Tree.{Tree}
+use Rattle.dc_tree.specs.declared.stmt.Branch.{Branch}
 use Rattle.dc_tree.specs.declared.stmt.Stmt.{Stmt}
 use Rattle.dc_tree.specs.declared.stmt.Stmt.TheOpen.{Stmt-F}
 use Rattle.dc_tree.specs.declared.stmt.Stmt.TheViews.{roll-Stmt}
 use Rattle.dc_tree.specs.declared.stmt.Stmt.TheFolds.{map-Stmt, fold-roll-Stmt, ind-Stmt}
 use Rattle.dc_tree.specs.declared.body.Body.{Body}
-use Rattle.dc_lower_expr.specs.Lowered.{Names, Codes, no_code, then_ops, assign_ops, tree_code}
+use Rattle.dc_lower_expr.specs.Lowered.{Names, Codes, no_code, block_code, then_ops, assign_ops, tree_code}
 use Rattle.dc_lower_expr.specs.Frames.{Slotted, words_at}
 use Rattle.dc_lower_expr.proofs.Follow.{Here, Form, value, Follows, then_follows, none_follows}
 use Rattle.dc_lower_expr.proofs.Ops.{number, assign_op}
 use Rattle.dc_lower_expr.proofs.Exprs.{both_true, of_is, number_is, type_is_number, CallsFollow, tree_follows}
-use Rattle.dc_lower.specs.Lowered.{block_code, if_code, while_code, return_ops, stmt_code_step, stmt_code, stmts_code}
+use Rattle.dc_lower.specs.Lowered.{branched_code, while_code, return_ops, stmt_code_step, stmt_code, stmts_code}
 use Rattle.dc_lower.proofs.Flow.{FollowsFlow, looser_flow, then_flow, eval_follows, return_op, block_follows, if_follows, while_follows}
 
 pub void_is : (ty : Ty) → IsTrue (is_void ty) → out-Ty ty ≡ Ty-F.Void
 void_is ty h = ap out-Ty (sym ((ty-Decides void ty).0 h)) ∙ out-roll-Ty Ty-F.Void
 
 -- a typed expression has a type
-some_type : (o : Option Ty) → IsTrue (is_typed o) → (ty : Ty) × (o ≡ Some ty)
+pub some_type : (o : Option Ty) → IsTrue (is_typed o) → (ty : Ty) × (o ≡ Some ty)
 some_type None t = absurd (true≢false (sym t))
 some_type (Some ty) t = (ty, refl)
 
 -- a condition is a number
-some_number : (o : Option Ty) → IsTrue (is_condition o) → (ty : Ty) × (k : Kind) × (o ≡ Some ty) × (out-Ty ty ≡ Ty-F.Int k)
+pub some_number : (o : Option Ty) → IsTrue (is_condition o) → (ty : Ty) × (k : Kind) × (o ≡ Some ty) × (out-Ty ty ≡ Ty-F.Int k)
 some_number None t = absurd (true≢false (sym t))
 some_number (Some ty) t = let k = number_is ty t in (ty, k.0, refl, k.1)
 
@@ -120,6 +122,31 @@ module _ (code : Draft) (limits : Limits) (nest : Nest) (h : Here) (vars : List 
     block_holds : (ys : List Y) → IsTrue (T ys) → F (C ys) (Z ys) (P ys)
     block_holds ys t = block_follows code limits nest h vars result fuel (stmt_code names) stmt_weight (stmt_meaning calls) (map p ys) (each_holds ys t)
 
+    abbrev codes : List (Branch Y) → List (Branch Codes)
+    codes bs = map (branch_with (stmt_code names)) (map (branch_with p) bs)
+
+    abbrev weights : List (Branch Y) → List (Branch ℕ)
+    weights bs = map (branch_with stmt_weight) (map (branch_with p) bs)
+
+    abbrev parts : List (Branch Y) → List (Branch (Part Flow))
+    parts bs = map (branch_with (stmt_meaning calls)) (map (branch_with p) bs)
+
+    abbrev types : List (Branch Y) → List (Branch Bool)
+    types bs = map (branch_with (stmt_typed bodies vars rt)) (map (branch_with p) bs)
+
+    branches_hold : (place : Place) (bs : List (Branch Y)) (last : List Y) → IsTrue (branches_typed bodies vars (types bs)) → IsTrue (T last) →
+        F (branched_code names place (codes bs) (C last)) (branches_weight (weights bs) + Z last) (branched calls (parts bs) (P last))
+    branches_hold place [] last t ts = looser (C last) (Z last) (0 + Z last) (P last) (omega arith) (block_holds last ts)
+    branches_hold place (b ∷ bs) last t ts =
+        let e = b.condition in
+        let us = both_true (is_condition (type_of bodies vars e)) (T b.body && branches_typed bodies vars (types bs)) t in
+        let vs = both_true (T b.body) (branches_typed bodies vars (types bs)) us.1 in
+        let c = some_number (type_of bodies vars e) us.0 in
+        let more = branches_weight (weights bs) + Z last in
+        looser (branched_code names place (codes (b ∷ bs)) (C last)) (tree_weight e + (Z b.body + more)) (branches_weight (weights (b ∷ bs)) + Z last) (branched calls (parts (b ∷ bs)) (P last)) (omega arith)
+        (if_follows code limits nest h vars result fuel place c.1 (tree_code names e) (C b.body) (branched_code names place (codes bs) (C last)) (tree_weight e) (Z b.body) more (tree_meaning calls e) (P b.body) (branched calls (parts bs) (P last))
+        (number_follows e c.0 c.1 c.2 c.3) (block_holds b.body vs.0) (branches_hold place bs last vs.1 ts))
+
     layer : (y : Stmt-F Y) → Layer (map-Stmt Y Stmt p y)
     layer (Stmt-F.Eval e) t =
         let ty = some_type (type_of bodies vars e) t in
@@ -130,13 +157,9 @@ module _ (code : Draft) (limits : Limits) (nest : Nest) (h : Here) (vars : List 
         looser (then_ops (tree_code names e) (assign_ops v.place (names.slot v.place))) (5 + tree_weight e) (8 + tree_weight e) (λ s. and_then (and_then (tree_meaning calls e s) (assigned v.place)) (λ v s. Goes Next s)) (omega arith)
         (declared v e (of_is v.ty (type_at v.place vars) ts.0) (of_is v.ty (type_of bodies vars e) ts.1))
     layer (Stmt-F.Block stmts) t = looser (C stmts) (Z stmts) (8 + Z stmts) (P stmts) (omega arith) (block_holds stmts t)
-    layer (Stmt-F.If place e one other) t =
-        let ts = both_true (is_condition (type_of bodies vars e)) (T one && T other) t in
-        let us = both_true (T one) (T other) ts.1 in
-        let c = some_number (type_of bodies vars e) ts.0 in
-        looser (if_code place (tree_code names e) (C one) (C other)) (tree_weight e + (Z one + Z other)) (8 + (tree_weight e + (Z one + Z other))) (stmt_step calls (Stmt-F.If place e (map (stmt_meaning calls) (map p one)) (map (stmt_meaning calls) (map p other)))) (omega arith)
-        (if_follows code limits nest h vars result fuel place c.1 (tree_code names e) (C one) (C other) (tree_weight e) (Z one) (Z other) (tree_meaning calls e) (P one) (P other)
-        (number_follows e c.0 c.1 c.2 c.3) (block_holds one us.0) (block_holds other us.1))
+    layer (Stmt-F.If place branches last) t =
+        let ts = both_true (branches_typed bodies vars (types branches)) (T last) t in
+        branches_hold place branches last ts.0 ts.1
     layer (Stmt-F.While place e body) t =
         let ts = both_true (is_condition (type_of bodies vars e)) (T body) t in
         let c = some_number (type_of bodies vars e) ts.0 in

@@ -12,10 +12,10 @@ use Rattle.dc_tree.specs.declared.body.Body.{Body}
 use Rattle.dc_lower_expr.specs.Lowered.{Names}
 use Rattle.dc_lower_expr.proofs.Steps.{HasAt, has_front, has_back, has_all}
 use Rattle.dc_lower_expr.proofs.Locals.{some_is, none_some}
-use Rattle.dc_lower.specs.Lowered.{body_code, bodies_code, functions_from, function_of, start_code, starts_code, entry_of, entries_from, numbers_from, names_in, lowered}
+use Rattle.dc_lower.specs.Lowered.{body_code, bodies_code, functions_from, function_of, start_code, starts_code, entry_of, entries_from, numbers_from, names_in, number_at, body_places, lowered}
 use Rattle.dc_lower.specs.Runs.{Runs}
 use Rattle.dc_lower.proofs.Leading.{body_numbered, number_is}
-use Rattle.dc_lower.proofs.Calls.{Loaded, function}
+use Rattle.dc_lower.proofs.Calls.{Loaded}
 use Rattle.dc_lower.proofs.Entries.{run_follows}
 
 pub get_front : {A : Type 0} (xs ys : List A) (k : ℕ) (a : A) → slice_get xs k ≡ Some a → slice_get (xs ++ ys) k ≡ Some a
@@ -77,6 +77,18 @@ numbers_get n [] k a e = absurd (none_some a e)
 numbers_get n (x ∷ xs) zero a e = ap Some (omega arith)
 numbers_get n (x ∷ xs) (suc k) a e = numbers_get (n + 1) xs k a e ∙ ap Some (omega arith)
 
+-- a body's function and its code are in the lowered code, and the body is typed
+pub lowered_loaded : (bodies : List Body) (starts : List Tree) → AreTyped bodies starts → (f : Place) (b : Body) → body_at bodies f ≡ Some b → Loaded (lowered bodies starts) bodies (number_at f (body_places bodies)) b × IsTyped bodies b
+lowered_loaded bodies starts good f b found =
+    let code = lowered bodies starts in
+    let cs = bodies_code bodies bodies 0 in
+    let ss = starts_code (names_in bodies []) starts (length cs) in
+    let fs = functions_from bodies bodies 0 in
+    let es = entries_from (names_in bodies []) starts (length cs) in
+    let r = body_numbered f b 0 bodies found in
+    let l = body_listed bodies bodies code.instrs 0 r.number b (has_front code.instrs 0 cs ss (has_all code.instrs [])) r.there in
+    (record { first = l.first; there = ap (slice_get code.functions) (number_is f b bodies r) ∙ get_front fs es r.number (function_of b l.first) l.there; has = l.has }, each_get (IsTyped bodies) bodies r.number b good.bodies_fit r.there)
+
 -- The lowered code does what the bodies and starts mean.
 pub lowered_runs : (bodies : List Body) (starts : List Tree) → AreTyped bodies starts → Runs bodies starts (lowered bodies starts)
 lowered_runs bodies starts good entry e is limits n =
@@ -87,15 +99,8 @@ lowered_runs bodies starts good entry e is limits n =
     let es = entries_from (names_in bodies []) starts (length cs) in
     let all = has_all code.instrs [] in
     let has_s : HasAt code.instrs (length cs) ss = subst (λ p. HasAt code.instrs p ss) (omega arith) (has_back code.instrs 0 cs ss all) in
-    let loaded : (f : Place) (b : Body) → body_at bodies f ≡ Some b → Loaded code bodies (function code limits bodies f) b = λ f b found.
-    let r = body_numbered f b 0 bodies found in
-    let l = body_listed bodies bodies code.instrs 0 r.number b (has_front code.instrs 0 cs ss all) r.there in
-    record { first = l.first; there = ap (slice_get code.functions) (number_is f b bodies r) ∙ get_front fs es r.number (function_of b l.first) l.there; has = l.has } in
-    let fit : (f : Place) (b : Body) → body_at bodies f ≡ Some b → IsTyped bodies b = λ f b found.
-    let r = body_numbered f b 0 bodies found in
-    each_get (IsTyped bodies) bodies r.number b good.bodies_fit r.there in
     let s = start_listed (names_in bodies []) starts code.instrs (length cs) entry e has_s is in
     let at : function_at code (slice_get code.entries entry) ≡ Some (entry_of e s.first) =
     ap (function_at code) (numbers_get (length bodies) starts entry e is)
     ∙ ap (λ k. slice_get code.functions (k + entry)) (sym (functions_length bodies bodies 0)) ∙ get_back fs es entry ∙ s.there in
-    run_follows code limits bodies loaded fit e entry s.first at s.has (each_get (IsTypedStart bodies) starts entry e good.starts_fit is) n
+    run_follows code limits bodies (λ f b found. (lowered_loaded bodies starts good f b found).0) (λ f b found. (lowered_loaded bodies starts good f b found).1) e entry s.first at s.has (each_get (IsTypedStart bodies) starts entry e good.starts_fit is) n

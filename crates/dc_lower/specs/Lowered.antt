@@ -1,5 +1,5 @@
 -- The code of bodies, and of the expressions with which runs begin.
-use Rattle.std.specs.Prelude.{ℕ, ◌+◌, List, [], ◌∷◌, ◌++◌, length, map, Option, Some, None, if◌then◌else◌}
+use Rattle.std.specs.Prelude.{ℕ, ◌+◌, ◌-◌, List, [], ◌∷◌, ◌++◌, length, map, Option, Some, None, slice_set, if◌then◌else◌}
 use Rattle.std.specs.Option.{unwrap_or}
 use Rattle.dc_types.specs.declared.place.Place.{Place}
 use Rattle.dc_types.specs.declared.ty.Ty.{Ty}
@@ -15,17 +15,14 @@ use Rattle.dc_tree.specs.Typed.{variables_of}
 use Rattle.dc_tree.specs.Nodes.{place_of, own_type}
 use Rattle.dc_tree.specs.declared.tree.Variable.{Variable}
 use Rattle.dc_tree.specs.declared.tree.Tree.{Tree}
+use Rattle.dc_tree.specs.declared.stmt.Branch.{Branch}
 use Rattle.dc_tree.specs.declared.stmt.Stmt.{Stmt}
 use Rattle.dc_tree.specs.declared.stmt.Stmt.TheOpen.{Stmt-F}
 use Rattle.dc_tree.specs.declared.stmt.Stmt.TheFolds.{fold-Stmt}
 use Rattle.dc_tree.specs.declared.body.Body.{Body}
-use Rattle.dc_lower_expr.specs.Lowered.{Names, Codes, instr, no_code, then_ops, assign_ops, tree_code}
+use Rattle.dc_lower_expr.specs.Lowered.{Names, Codes, instr, no_code, block_code, then_ops, assign_ops, tree_code}
 
 -- ---- statements
-
-abbrev pub block_code : List Codes → Codes
-block_code [] pc spare = []
-block_code (c ∷ cs) pc spare = c pc spare ++ block_code cs (pc + length (c pc spare)) spare
 
 -- the test, a jump past the first side, that side with a jump past the second, and the second
 abbrev pub if_code : Place → Codes → Codes → Codes → Codes
@@ -34,6 +31,36 @@ if_code place test one other pc spare =
     let second = first + length (one first spare) + 1 in
     test pc spare ++ (instr place (op.JumpZero spare second) ∷ (one first spare ++
     (instr place (op.Jump (second + length (other second spare))) ∷ other second spare)))
+
+-- each branch an `if` whose second side are the branches behind it, or the last part
+abbrev pub branched_code : Names → Place → List (Branch Codes) → Codes → Codes
+branched_code names place [] last = last
+branched_code names place (b ∷ bs) last = if_code place (tree_code names b.condition) (block_code b.body) (branched_code names place bs last)
+
+-- A branch with a jump to an end. Such branches one behind the other, and the last part behind them, are what the branches
+-- of an `if` are, where the end is behind them all.
+abbrev pub branch_code : Names → Place → ℕ → Branch Codes → Codes
+branch_code names place end b pc spare =
+    let first = pc + length (tree_code names b.condition pc spare) + 1 in
+    let second = first + length (block_code b.body first spare) + 1 in
+    tree_code names b.condition pc spare ++ (instr place (op.JumpZero spare second) ∷ (block_code b.body first spare ++ instr place (op.Jump end) ∷ []))
+
+abbrev pub branches_code : Names → Place → ℕ → List (Branch Codes) → Codes
+branches_code names place end bs = block_code (map (branch_code names place end) bs)
+
+-- where the last instruction of each of these codes stands
+abbrev pub last_of_each : List Codes → ℕ → ℕ → List ℕ
+last_of_each [] pc spare = []
+last_of_each (c ∷ cs) pc spare = (pc + length (c pc spare) - 1) ∷ last_of_each cs (pc + length (c pc spare)) spare
+
+-- where the jumps to the end stand
+abbrev pub branch_jumps : Names → Place → List (Branch Codes) → ℕ → ℕ → List ℕ
+branch_jumps names place bs = last_of_each (map (branch_code names place 0) bs)
+
+-- one instruction at each of these numbers
+abbrev pub set_each : List Instr → List ℕ → Instr → List Instr
+set_each instrs [] i = instrs
+set_each instrs (n ∷ ns) i = set_each (slice_set instrs n i) ns i
 
 -- A jump to the test, the turn, the body, the test, and a jump back to the turn: so the test of a loop stands behind its
 -- body, and the only jump that leads back leads to a turn.
@@ -53,7 +80,7 @@ abbrev pub stmt_code_step : Names → Stmt-F Codes → Codes
 stmt_code_step names (Stmt-F.Eval e) = tree_code names e
 stmt_code_step names (Stmt-F.Declare v e) = then_ops (tree_code names e) (assign_ops v.place (names.slot v.place))
 stmt_code_step names (Stmt-F.Block stmts) = block_code stmts
-stmt_code_step names (Stmt-F.If place e one other) = if_code place (tree_code names e) (block_code one) (block_code other)
+stmt_code_step names (Stmt-F.If place branches last) = branched_code names place branches (block_code last)
 stmt_code_step names (Stmt-F.While place e body) = while_code place (tree_code names e) (block_code body)
 stmt_code_step names (Stmt-F.Return place e) = returned_code names place e
 

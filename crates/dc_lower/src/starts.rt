@@ -23,7 +23,7 @@ fn own_count(e: &Tree) -> u32
         Tree::Constant(_, c) => count_of(&c.ty),
         Tree::Local(_, v) => count_of(&v.ty),
         Tree::Assign(_, v, _) => count_of(&v.ty),
-        Tree::Binary(_, _, _, _, _) => 1,
+        Tree::Chain(_, _, _, _) => 1,
         Tree::Compare(_, _, _, _, _) => 1,
         Tree::Call(_, _, ty, _) => count_of(ty),
         Tree::Print(_, _, _, _) => 0,

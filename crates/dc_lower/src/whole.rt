@@ -1,5 +1,6 @@
 // The code of bodies and starts.
-ghost use Rattle.std.specs.Prelude.{◌≡◌, IfOk};
+ghost use Rattle.std.specs.Prelude.{◌≡◌, length, IfOk, All};
+ghost use Rattle.dc_code.specs.Simple.{IsSimple};
 ghost use Rattle.dc_tree.specs.Typed.{AreTyped};
 ghost use Rattle.dc_lower.specs.Lowered.{lowered};
 ghost use Rattle.dc_lower.specs.Runs.{Runs};
@@ -47,14 +48,18 @@ fn lower_all(alloc: Global, bodies: &Bodies, starts: &Starts) -> Result<Draft, N
 
 /// The code of bodies, with one entry for each start: within all limits and for every bound of ticks, the run of an entry
 /// has the events and the end of its start's meaning over the bodies (D specification, "Functions", "Statements" and
-/// "Expressions").
+/// "Expressions"). Its instructions are those on numbers. Code with a list that no number of 32 bits counts wants too much
+/// memory.
 pub fn lower_bodies(alloc: Global, bodies: &Bodies, starts: &Starts) -> Result<Code, NoMemory>
     requires { AreTyped bodies.now starts.now }
-    ensures { IfOk result (λ code. Runs bodies.now starts.now code) }
+    ensures runs { IfOk result (λ code. Runs bodies.now starts.now code) }
+    ensures simple { IfOk result (λ code. All (λ i. IsSimple i.op) code.instrs) }
+    ensures entries { IfOk result (λ code. length code.entries ≡ length starts.now) }
 {
     let draft = lower_all(alloc, bodies, starts)?;
-    match draft.finish() {
-        Ok(code) => Ok(code),
-        Err(_) => Err(NoMemory),
+    if draft.is_short() {
+        Ok(Code::of_sound(draft))
+    } else {
+        Err(NoMemory)
     }
 }

@@ -1,5 +1,5 @@
 -- The machine follows each typed expression.
-use Rattle.std.proofs.Common.{◌≡◌, ℕ, zero, suc, ◌+◌, ◌≤◌, Bool, true, false, ◌&&◌, List, [], ◌∷◌, ◌++◌, length, map, Option, Some, None, refl, sym, ap, ap₂, ◌∙◌, subst, arith, IsTrue, true≢false, ℤ, ◌≤ℤ◌}
+use Rattle.std.proofs.Common.{◌≡◌, ℕ, ◌+◌, ◌≤◌, Bool, true, false, ◌&&◌, List, [], ◌∷◌, map, Option, Some, None, refl, sym, ap, ◌∙◌, subst, arith, IsTrue, true≢false, ℤ, ◌≤ℤ◌}
 use Rattle.std.specs.Prelude.{int_le, if◌then◌else◌}
 use Rattle.std.proofs.lemmas.Int.{ints}
 use Rattle.dc_types.specs.declared.kind.Kind.{Kind}
@@ -9,7 +9,7 @@ use Rattle.dc_types.specs.declared.kind.CmpOp.{CmpOp}
 use Rattle.dc_types.specs.declared.place.Place.{Place}
 use Rattle.dc_types.specs.declared.ty.Ty.{Ty}
 use Rattle.dc_types.specs.declared.ty.Ty.TheOpen.{Ty-F}
-use Rattle.dc_types.specs.declared.ty.Ty.TheViews.{out-Ty, roll-Ty, out-roll-Ty}
+use Rattle.dc_types.specs.declared.ty.Ty.TheViews.{out-Ty, out-roll-Ty}
 use Rattle.dc_types.specs.declared.constant.Const.{Const}
 use Rattle.dc_types.specs.declared.constant.CTree.TheOpen.{CTree-F}
 use Rattle.dc_types.specs.declared.constant.CTree.TheViews.{out-CTree}
@@ -21,21 +21,24 @@ use Rattle.dc_types.specs.Same as same
 use Rattle.dc_code.specs.declared.run.Nest.{Nest}
 use Rattle.dc_code.specs.declared.code.Draft.{Draft}
 use Rattle.dc_tree.specs.Values.{int, void, num, number_in, number_of_tree, constant_by, truth_number}
-use Rattle.dc_tree.specs.Weight.{sum, tree_weight_step, tree_weight}
-use Rattle.dc_tree.specs.Meaning.{Part, Goes, value_at, assigned, operated, printed, both, each, Calls, body_at, tree_step, tree_meaning}
-use Rattle.dc_tree.specs.Typed.{is_of, are_of, all_of, are_numbers, is_number, is_number_by, type_at, is_among, types_of, takes, constant_fits_by, constant_fits, right_kind, typed_as, type_step, type_of}
+use Rattle.dc_tree.specs.Weight.{sum, operations_weight, tree_weight_step, tree_weight}
+use Rattle.dc_tree.specs.Nodes.{operation_with}
+use Rattle.dc_tree.specs.Meaning.{Part, Goes, value_at, and_then, assigned, operated, chained, printed, both, each, Calls, body_at, tree_step, tree_meaning}
+use Rattle.dc_tree.specs.Typed.{is_of, are_of, are_numbers, is_number, is_number_by, type_at, is_among, types_of, takes, constant_fits_by, constant_fits, right_kind, operands_fit, typed_as, type_step, type_of}
 use Rattle.dc_tree.specs.declared.tree.Variable.{Variable}
+use Rattle.dc_tree.specs.declared.tree.Operation.{Operation}
 use Rattle.dc_tree.specs.declared.tree.Tree.{Tree}
 use Rattle.dc_tree.specs.declared.tree.Tree.TheOpen.{Tree-F}
 use Rattle.dc_tree.specs.declared.tree.Tree.TheViews.{roll-Tree}
 use Rattle.dc_tree.specs.declared.tree.Tree.TheFolds.{map-Tree, fold-roll-Tree, ind-Tree}
 use Rattle.dc_tree.specs.declared.body.Body.{Body}
-use Rattle.dc_lower_expr.specs.Lowered.{Names, Codes, no_code, two_code, each_code, then_ops, constant_ops, local_ops, assign_ops, binary_ops, compare_ops, print_ops, call_ops, tree_code_step, tree_code}
-use Rattle.dc_lower_expr.specs.Frames.{slot_of, Slotted}
+use Rattle.dc_lower_expr.specs.Lowered.{Names, Codes, no_code, two_code, each_code, constant_ops, local_ops, assign_ops, binary_ops, chain_code, compare_ops, print_ops, call_ops, tree_code_step, tree_code}
+use Rattle.dc_lower_expr.specs.Frames.{Slotted}
 use Rattle.dc_lower_expr.proofs.Locals.{some_is, none_some}
-use Rattle.dc_lower_expr.proofs.Follow.{Here, Form, value, pair, unit, Follows, Operates, then_follows, with_follows, two_follows, none_follows}
+use Rattle.dc_lower_expr.proofs.Follow.{Here, Form, value, pair, unit, Follows, Operates, as_follows, then_follows, with_follows, two_follows, none_follows}
+use Rattle.dc_lower_expr.proofs.Chains.{binary_code, binary_part, nested_code, nested_part, nested_code_is, nested_part_is}
 use Rattle.dc_lower_expr.proofs.Ops.{number, constant_op, local_op, assign_op, binary_op, compare_op}
-use Rattle.dc_lower_expr.proofs.Prints.{IsNumber, AreFine, values, print_op}
+use Rattle.dc_lower_expr.proofs.Prints.{values, print_op}
 
 le_true : (a b : ℤ) → int_le a b ≡ true → a ≤ℤ b
 le_true a b h = grind (arith, ints)
@@ -107,20 +110,20 @@ constant_by_is c Ty-F.EmptyLit y e f h = absurd (true≢false (sym h))
 
 -- ---- weights
 
-sum_weights : Tree-F ℕ → Type 0
-sum_weights x = 5 ≤ tree_weight_step x
+some_layer : {Y : Type 0} (p : Y → Tree) (h : (y : Y) → 5 ≤ tree_weight (p y)) (y : Tree-F Y) → 5 ≤ tree_weight_step (map-Tree Tree ℕ tree_weight (map-Tree Y Tree p y))
+some_layer p h (Tree-F.Constant place c) = omega arith
+some_layer p h (Tree-F.Local place v) = omega arith
+some_layer p h (Tree-F.Assign place v e) = omega arith
+some_layer p h (Tree-F.Chain place k first rest) = omega (arith, h first)
+some_layer p h (Tree-F.Compare place op k a b) = omega arith
+some_layer p h (Tree-F.Call place f ty args) = omega arith
+some_layer p h (Tree-F.Print place tys args line) = omega arith
 
-pub step_weight : (x : Tree-F ℕ) → 5 ≤ tree_weight_step x
-step_weight (Tree-F.Constant place c) = omega arith
-step_weight (Tree-F.Local place v) = omega arith
-step_weight (Tree-F.Assign place v e) = omega arith
-step_weight (Tree-F.Binary place op k a b) = omega arith
-step_weight (Tree-F.Compare place op k a b) = omega arith
-step_weight (Tree-F.Call place f ty args) = omega arith
-step_weight (Tree-F.Print place tys args line) = omega arith
+some_rolled : (x : Tree-F Tree) → 5 ≤ tree_weight_step (map-Tree Tree ℕ tree_weight x) → 5 ≤ tree_weight (roll-Tree x)
+some_rolled x h = subst (λ n. 5 ≤ n) (sym (fold-roll-Tree ℕ tree_weight_step x)) h
 
 pub some_weight : (e : Tree) → 5 ≤ tree_weight e
-some_weight = ind-Tree (λ e. 5 ≤ tree_weight e) (λ x y is. subst (λ n. 5 ≤ n) (sym (fold-roll-Tree ℕ tree_weight_step x)) (step_weight (map-Tree Tree ℕ tree_weight x)))
+some_weight = ind-Tree (λ e. 5 ≤ tree_weight e) (λ x y is. subst (λ z. 5 ≤ tree_weight (roll-Tree z)) is (some_rolled _ (some_layer (λ e. e.0) (λ e. e.1) y)))
 
 module _ (code : Draft) (limits : Limits) (nest : Nest) (h : Here) (vars : List Variable) (fuel : ℕ) (bodies : List Body) (names : Names) (calls : Calls) (numbers : IsTrue (are_numbers (types_of vars))) (slotted : Slotted vars names.slot) (params : (f : Place) (b : Body) → body_at bodies f ≡ Some b → IsTrue (are_numbers (types_of b.params))) (cf : CallsFollow code limits nest bodies fuel names.function calls) where
   abbrev F : (F : Form) → Codes → ℕ → Part F.A → Type 0
@@ -147,7 +150,7 @@ module _ (code : Draft) (limits : Limits) (nest : Nest) (h : Here) (vars : List 
         looser (number k) (tree_code_step names (Tree-F.Assign place v ca)) (5 + za) (10 + za) (tree_step calls (Tree-F.Assign place v ma)) (omega arith)
         (then_follows code limits nest h vars fuel (number k) (number k) ca (assign_ops place (names.slot v.place)) za ma (assigned v.place) fa (assign_op code limits nest h vars fuel place v v.ty k (names.slot v.place) (slotted v.place v.ty there) there is))
 
-    binary_follows : (place : Place) (o : BinOp) (k : Kind) → F (number k) ca za ma → F (number (right_kind o k)) cb zb mb → FF (Ty-F.Int k) (Tree-F.Binary place o k ca cb) (Tree-F.Binary place o k za zb) (Tree-F.Binary place o k ma mb)
+    binary_follows : (place : Place) (o : BinOp) (k : Kind) → F (number k) ca za ma → F (number (right_kind o k)) cb zb mb → F (number k) (binary_code place k ca (record { operator = o; operand = cb })) (5 + (za + zb)) (binary_part place k ma (record { operator = o; operand = mb }))
     binary_follows place o k fa fb =
         then_follows code limits nest h vars fuel (pair (number k) (number (right_kind o k))) (number k) (two_code ca cb) (binary_ops place o k) (za + zb) (both ma mb) (operated place o k)
         (two_follows code limits nest h vars fuel (number k) (number (right_kind o k)) ca cb za zb ma mb (λ a f. refl) (omega (arith, some)) fa fb) (binary_op code limits nest h vars fuel place o k)
@@ -207,6 +210,36 @@ module _ (code : Draft) (limits : Limits) (nest : Nest) (h : Here) (vars : List 
     part : (y : Y) (k : Kind) → IsTrue (is_of (int k) (T y)) → F (number k) (C y) (Z y) (P y)
     part y k t = subst (λ x. F (value x) (C y) (Z y) (P y)) (out-roll-Ty (Ty-F.Int k)) (q y (int k) (of_is (int k) (T y) t))
 
+    abbrev codes : List (Operation Y) → List (Operation Codes)
+    codes os = map (operation_with (tree_code names)) (map (operation_with p) os)
+
+    abbrev weights : List (Operation Y) → List (Operation ℕ)
+    weights os = map (operation_with tree_weight) (map (operation_with p) os)
+
+    abbrev parts : List (Operation Y) → List (Operation (Part Value))
+    parts os = map (operation_with (tree_meaning calls)) (map (operation_with p) os)
+
+    abbrev types : List (Operation Y) → List (Operation (Option Ty))
+    types os = map (operation_with (type_of bodies vars)) (map (operation_with p) os)
+
+    nested_holds : (place : Place) (k : Kind) (os : List (Operation Y)) → IsTrue (operands_fit k (types os)) → (c : Codes) (z : ℕ) (m : Part Value) → 5 ≤ z → F (number k) c z m →
+        F (number k) (nested_code place k c (codes os)) (z + operations_weight (weights os)) (nested_part place k m (parts os))
+    nested_holds place k [] t c z m some f = looser (number k) c z (z + 0) m (omega arith) f
+    nested_holds place k (o ∷ os) t c z m some f =
+        let y = o.operand in
+        let ts = both_true (is_of (int (right_kind o.operator k)) (T y)) (operands_fit k (types os)) t in
+        let c' = binary_code place k c (record { operator = o.operator; operand = C y }) in
+        let m' = binary_part place k m (record { operator = o.operator; operand = P y }) in
+        looser (number k) (nested_code place k c' (codes os)) (5 + (z + Z y) + operations_weight (weights os)) (z + operations_weight (weights (o ∷ os))) (nested_part place k m' (parts os)) (omega arith)
+        (nested_holds place k os ts.1 c' (5 + (z + Z y)) m' (omega arith) (binary_follows c (C y) z (Z y) m (P y) some place o.operator k f (part y (right_kind o.operator k) ts.0)))
+
+    chain_holds : (place : Place) (k : Kind) (first : Y) (os : List (Operation Y)) → IsTrue (is_of (int k) (T first)) → IsTrue (operands_fit k (types os)) →
+        FF (Ty-F.Int k) (Tree-F.Chain place k (C first) (codes os)) (Tree-F.Chain place k (Z first) (weights os)) (Tree-F.Chain place k (P first) (parts os))
+    chain_holds place k first os t ts =
+        let z = Z first + operations_weight (weights os) in
+        as_follows code limits nest h vars fuel (number k) (nested_code place k (C first) (codes os)) (chain_code place k (C first) (codes os)) z z (nested_part place k (P first) (parts os)) (λ s. and_then (P first s) (chained place k (parts os)))
+        (nested_code_is place k (codes os) (C first)) (nested_part_is place k (parts os) (P first)) (omega arith) (nested_holds place k os ts (C first) (Z first) (P first) (some_weight (p first)) (part first k t))
+
     each_holds : (tys : List Ty) (ys : List Y) → IsTrue (are_of tys (map (type_of bodies vars) (map p ys))) → IsTrue (are_numbers tys) →
         F (values tys) (each_code (map (tree_code names) (map p ys))) (sum (map tree_weight (map p ys))) (each (map (tree_meaning calls) (map p ys)))
     each_holds [] [] t n = none
@@ -251,11 +284,11 @@ module _ (code : Draft) (limits : Limits) (nest : Nest) (h : Here) (vars : List 
         let k = number_is v.ty (type_is_number v.place v.ty vars numbers there) in
         as_type (Ty-F.Int k.0) ty v.ty (Tree-F.Assign place v (C e)) (Tree-F.Assign place v (Z e)) (Tree-F.Assign place v (P e)) ts.1 k.1
         (assign_follows (C e) (C e) (Z e) (Z e) (P e) (P e) (some_weight (p e)) place v k.0 there k.1 (subst (λ x. F (value x) (C e) (Z e) (P e)) k.1 (q e v.ty (of_is v.ty (T e) us.1))))
-    layer (Tree-F.Binary place o k a b) ty t =
-        let ts = typed_is (is_of (int k) (T a) && is_of (int (right_kind o k)) (T b)) (int k) ty t in
-        let us = both_true (is_of (int k) (T a)) (is_of (int (right_kind o k)) (T b)) ts.0 in
-        as_type (Ty-F.Int k) ty (int k) (Tree-F.Binary place o k (C a) (C b)) (Tree-F.Binary place o k (Z a) (Z b)) (Tree-F.Binary place o k (P a) (P b)) ts.1 (out-roll-Ty (Ty-F.Int k))
-        (binary_follows (C a) (C b) (Z a) (Z b) (P a) (P b) (some_weight (p a)) place o k (part a k us.0) (part b (right_kind o k) us.1))
+    layer (Tree-F.Chain place k first rest) ty t =
+        let ts = typed_is (is_of (int k) (T first) && operands_fit k (types rest)) (int k) ty t in
+        let us = both_true (is_of (int k) (T first)) (operands_fit k (types rest)) ts.0 in
+        as_type (Ty-F.Int k) ty (int k) (Tree-F.Chain place k (C first) (codes rest)) (Tree-F.Chain place k (Z first) (weights rest)) (Tree-F.Chain place k (P first) (parts rest)) ts.1 (out-roll-Ty (Ty-F.Int k))
+        (chain_holds place k first rest us.0 us.1)
     layer (Tree-F.Compare place o k a b) ty t =
         let ts = typed_is (is_of (int k) (T a) && is_of (int k) (T b)) (int kind.Bool) ty t in
         let us = both_true (is_of (int k) (T a)) (is_of (int k) (T b)) ts.0 in

@@ -1,5 +1,5 @@
 -- The machine follows a part of a tree.
-use Rattle.std.proofs.Common.{◌≡◌, ℕ, ◌+◌, ◌≤◌, List, [], ◌∷◌, ◌++◌, length, drop, refl, sym, ap, ap₂, ◌∙◌, arith, append_assoc, length-append, length-drop}
+use Rattle.std.proofs.Common.{◌≡◌, ℕ, ◌+◌, ◌≤◌, List, [], ◌++◌, length, drop, refl, sym, ap, ap₂, ◌∙◌, subst, arith, append_assoc, length-append, length-drop}
 use Rattle.std.specs.Prelude.{slice_index}
 use Rattle.dc_types.specs.declared.ty.Ty.{Ty}
 use Rattle.dc_types.specs.declared.ty.Ty.TheOpen.{Ty-F}
@@ -149,6 +149,15 @@ module _ (code : Draft) (limits : Limits) (nest : Nest) (h : Here) (vars : List 
         (pc spare taken : ℕ) (temps rest : List ℕ) (s : State) (a : F.A) →
         HasAt code.instrs pc (ops spare) → spare ≡ fixed + length temps → Good vars s.locals → F.Fine a → 5 ≤ length (F.words a ++ rest) → s.left ≤ fuel →
         Gives G (M pc taken s temps (F.words a ++ rest)) (pc + length (ops spare)) temps (length (F.words a ++ rest)) s.left (go a s)
+
+    -- the same of equal codes and parts, with more room
+    pub as_follows : (F : Form) (c c' : Codes) (size size' : ℕ) (m m' : Part F.A) → ((pc spare : ℕ) → c pc spare ≡ c' pc spare) → ((s : State) → m s ≡ m' s) → size ≤ size' → Follows F c size m → Follows F c' size' m'
+    as_follows F c c' size size' m m' codes parts le f pc spare taken temps more s has e good room ticks =
+        let from = M pc taken s temps more in
+        let is = codes pc spare in
+        subst (λ r. Gives F from (pc + length (c' pc spare)) temps (length more) s.left r) (parts s)
+        (subst (λ l. Gives F from (pc + length l) temps (length more) s.left (m s)) is
+        (f pc spare taken temps more s (subst (HasAt code.instrs pc) (sym is) has) e good (omega (arith, le, room)) ticks))
 
     pub then_follows : (F G : Form) (c : Codes) (ops : ℕ → List Instr) (size : ℕ) (m : Part F.A) (go : F.A → Part G.A) → Follows F c size m → Operates F G ops go → Follows G (then_ops c ops) (5 + size) (λ s. and_then (m s) go)
     then_follows F G c ops size m go f op pc spare taken temps more s has e good room ticks =

@@ -5,5 +5,7 @@ pub mod Locals
 pub mod Follow
 pub mod Ops
 pub mod Prints
+pub mod Chains
 pub mod Exprs
+pub mod Fitting
 pub mod Lists

@@ -1,11 +1,16 @@
 -- Codes and weights of lists, one element on.
 use Rattle.std.proofs.Common.{◌≡◌, ℕ, zero, suc, ◌+◌, ◌<◌, ◌≤◌, Bool, List, [], ◌∷◌, ◌++◌, length, map, take, get_or, refl, sym, ap, ap₂, ◌∙◌, arith, append_assoc, append-nil, length-append}
+use Rattle.dc_types.specs.declared.kind.Kind.{Kind}
 use Rattle.dc_types.specs.declared.place.Place.{Place}
 use Rattle.dc_types.specs.declared.ty.Ty.{Ty}
 use Rattle.dc_code.specs.declared.instr.Op.TheVariants as op
 use Rattle.dc_code.specs.declared.instr.Instr.{Instr}
-use Rattle.dc_tree.specs.Weight.{sum}
-use Rattle.dc_lower_expr.specs.Lowered.{Codes, instr, kind_of, each_code, put_ops, line_ops, print_ops}
+use Rattle.dc_tree.specs.Weight.{sum, operations_weight, operation_weight, tree_weight}
+use Rattle.dc_tree.specs.Nodes.{operation_with}
+use Rattle.dc_tree.specs.declared.tree.Operation.{Operation}
+use Rattle.dc_tree.specs.declared.tree.Tree.{Tree}
+use Rattle.dc_tree.proofs.Adding.{operations_sum}
+use Rattle.dc_lower_expr.specs.Lowered.{Names, Codes, instr, kind_of, each_code, block_code, binary_ops, operation_code, operations_code, put_ops, line_ops, print_ops, tree_code}
 
 -- the weight at an index, with one for each element before it
 pub weight_at : {X : Type 0} (f : X → ℕ) (some : (x : X) → 5 ≤ f x) (xs : List X) (i : ℕ) (d : X) → i < length xs → i + f (get_or xs i d) ≤ sum (map f xs)
@@ -65,3 +70,53 @@ printed place tys line old a c1 c2 c3 spare e1 e2 e3 =
 -- one part behind another
 pub behind : (old a c b : List Instr) → c ≡ old ++ a → c ++ b ≡ old ++ (a ++ b)
 behind old a c b e = ap (λ c. c ++ b) e ∙ append_assoc old a b
+
+-- the weight at an index
+pub weight_below : {X : Type 0} (f : X → ℕ) (xs : List X) (i : ℕ) (d : X) → i < length xs → f (get_or xs i d) ≤ sum (map f xs)
+weight_below f [] i d h = absurd (omega arith)
+weight_below f (x ∷ xs) zero d h = omega arith
+weight_below f (x ∷ xs) (suc i) d h = omega (arith, weight_below f xs i d (omega arith))
+
+pub block_code_more : {X : Type 0} (c : X → Codes) (xs : List X) (i pc spare : ℕ) (d : X) → i < length xs → block_code (map c (take (i + 1) xs)) pc spare ≡ block_code (map c (take i xs)) pc spare ++ c (get_or xs i d) (pc + length (block_code (map c (take i xs)) pc spare)) spare
+block_code_more c [] i pc spare d h = absurd (omega arith)
+block_code_more c (x ∷ xs) zero pc spare d h =
+    append-nil (c x pc spare) ∙ ap (λ p. c x p spare) (omega arith)
+block_code_more c (x ∷ xs) (suc i) pc spare d h =
+    let front = c x pc spare in
+    let more = block_code (map c (take i xs)) (pc + length front) spare in
+    let n : pc + length front + length more ≡ pc + length (front ++ more) = omega (arith, length-append front more) in
+    let k : suc i + 1 ≡ suc (i + 1) = omega arith in
+    ap (λ k. block_code (map c (take k (x ∷ xs))) pc spare) k
+    ∙ ap (λ l. front ++ l) (block_code_more c xs i (pc + length front) spare d (omega arith))
+    ∙ sym (append_assoc front more (c (get_or xs i d) (pc + length front + length more) spare))
+    ∙ ap (λ p. (front ++ more) ++ c (get_or xs i d) p spare) n
+
+pub block_step : (X : Type 0) (c : X → Codes) (old code new : List Instr) (xs : List X) (i spare : ℕ) (x : X) → code ≡ old ++ block_code (map c (take i xs)) (length old) spare → i < length xs → x ≡ get_or xs i x → new ≡ code ++ c x (length code) spare → new ≡ old ++ block_code (map c (take (i + 1) xs)) (length old) spare
+block_step X c old code new xs i spare x e lt is n =
+    let done = block_code (map c (take i xs)) (length old) spare in
+    let len : length code ≡ length old + length done = ap length e ∙ length-append old done in
+    n ∙ ap (λ p. code ++ c x p spare) len ∙ ap₂ (λ l y. l ++ c y (length old + length done) spare) e is
+    ∙ append_assoc old done (c (get_or xs i x) (length old + length done) spare)
+    ∙ ap (λ l. old ++ l) (sym (block_code_more c xs i (length old) spare x lt))
+
+-- the code of an operation on a tree
+abbrev on_tree : Names → Place → Kind → Operation Tree → Codes
+on_tree names place k o = operation_code place k (operation_with (tree_code names) o)
+
+operations_are : (names : Names) (place : Place) (k : Kind) (os : List (Operation Tree)) → block_code (map (on_tree names place k) os) ≡ operations_code place k (map (operation_with (tree_code names)) os)
+operations_are names place k os = ap block_code (by os) where
+  by : (os : List (Operation Tree)) → map (on_tree names place k) os ≡ map (operation_code place k) (map (operation_with (tree_code names)) os)
+  by [] = refl
+  by (o ∷ os) = ap (λ cs. on_tree names place k o ∷ cs) (by os)
+
+-- the step of a loop that emits the code of each operation
+pub operation_step : (names : Names) (place : Place) (k : Kind) (old code mid new : List Instr) (os : List (Operation Tree)) (i spare : ℕ) (o : Operation Tree) → code ≡ old ++ operations_code place k (map (operation_with (tree_code names)) (take i os)) (length old) spare → i < length os → o ≡ get_or os i o →
+    mid ≡ code ++ tree_code names o.operand (length code) (spare + 1) → new ≡ mid ++ binary_ops place o.operator k spare → new ≡ old ++ operations_code place k (map (operation_with (tree_code names)) (take (i + 1) os)) (length old) spare
+operation_step names place k old code mid new os i spare o e lt is e1 e2 =
+    let a = tree_code names o.operand (length code) (spare + 1) in
+    let made = block_step (Operation Tree) (on_tree names place k) old code new os i spare o (e ∙ ap (λ c. old ++ c (length old) spare) (sym (operations_are names place k (take i os)))) lt is (e2 ∙ behind code a mid (binary_ops place o.operator k spare) e1) in
+    made ∙ ap (λ c. old ++ c (length old) spare) (operations_are names place k (take (i + 1) os))
+
+-- an operand's weight among those of its chain
+pub operand_weight : (os : List (Operation Tree)) (i : ℕ) (d : Operation Tree) → i < length os → 5 + tree_weight (get_or os i d).operand ≤ operations_weight (map (operation_with tree_weight) os)
+operand_weight os i d lt = omega (arith, weight_below operation_weight os i d lt, operations_sum os)

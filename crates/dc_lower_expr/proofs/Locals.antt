@@ -1,19 +1,15 @@
 -- Variables and their words.
-use Rattle.std.proofs.Common.{◌≡◌, ℕ, zero, suc, ◌+◌, ◌<◌, Bool, true, false, List, [], ◌∷◌, ◌++◌, length, map, Option, Some, None, refl, sym, ap, ◌∙◌, subst, arith}
+use Rattle.std.proofs.Common.{◌≡◌, ℕ, suc, Bool, true, false, List, [], ◌∷◌, ◌++◌, length, map, Option, Some, None, refl, sym, ap, ◌∙◌, subst, arith}
 use Rattle.std.specs.Prelude.{if◌then◌else◌}
 use Rattle.dc_types.specs.declared.place.Place.{Place}
 use Rattle.dc_types.specs.declared.ty.Ty.{Ty}
-use Rattle.dc_types.specs.declared.ty.Ty.TheOpen.{Ty-F}
 use Rattle.dc_types.specs.declared.ty.Ty.TheViews.{out-Ty}
 use Rattle.dc_types.specs.declared.value.Value.{Value}
-use Rattle.dc_types.specs.Integers.{InKind}
 use Rattle.dc_types.specs.Same as same
-use Rattle.dc_code.specs.Numbers.{word_of}
-use Rattle.dc_tree.specs.Values.{number_in}
 use Rattle.dc_tree.specs.Meaning.{Held, value_at, with_value}
 use Rattle.dc_tree.specs.Typed.{type_at}
 use Rattle.dc_tree.specs.declared.tree.Variable.{Variable}
-use Rattle.dc_lower_expr.specs.Frames.{slot_of, word, fine_at, words_at}
+use Rattle.dc_lower_expr.specs.Frames.{slot_of, word, fine_at}
 
 abbrev pub words_of : List Held → List ℕ
 words_of hs = map (λ h. word h.value) hs

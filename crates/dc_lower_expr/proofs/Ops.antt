@@ -1,6 +1,5 @@
 -- What each instruction does with the words of its operands.
-use Rattle.std.proofs.Common.{◌≡◌, ℕ, zero, suc, ◌+◌, ◌<◌, ◌≤◌, Bool, true, false, List, [], ◌∷◌, ◌++◌, length, take, drop, Some, Result, Ok, Err, refl, sym, ap, ap₂, ◌∙◌, subst, arith, append_assoc, length-append, ℤ, pos}
-use Rattle.std.specs.Prelude.{slice_index, if◌then◌else◌}
+use Rattle.std.proofs.Common.{◌≡◌, ℕ, ◌+◌, List, [], ◌∷◌, ◌++◌, length, take, drop, Some, Result, Ok, Err, refl, sym, ap, ap₂, ◌∙◌, subst, arith, append_assoc, length-append, ℤ}
 use Rattle.dc_types.specs.declared.kind.Kind.{Kind}
 use Rattle.dc_types.specs.declared.kind.Kind.TheVariants as kind
 use Rattle.dc_types.specs.declared.kind.BinOp.{BinOp}
@@ -11,16 +10,14 @@ use Rattle.dc_types.specs.declared.ty.Ty.{Ty}
 use Rattle.dc_types.specs.declared.ty.Ty.TheOpen.{Ty-F}
 use Rattle.dc_types.specs.declared.ty.Ty.TheViews.{out-Ty}
 use Rattle.dc_types.specs.declared.constant.Const.{Const}
-use Rattle.dc_types.specs.declared.value.Value.{Value}
 use Rattle.dc_types.specs.declared.value.Value.TheOpen.{Value-F}
 use Rattle.dc_types.specs.declared.value.Value.TheViews.{out-roll-Value}
 use Rattle.dc_types.specs.declared.event.TrapKind.{TrapKind}
-use Rattle.dc_types.specs.declared.event.Event.TheVariants.{Print}
 use Rattle.dc_types.specs.declared.event.Limits.{Limits}
 use Rattle.dc_types.specs.Integers.{InKind, binary, compare}
 use Rattle.dc_types.proofs.Values.{InKind-binary}
-use Rattle.dc_code.specs.State.{Machine, Run, On, Done}
-use Rattle.dc_code.specs.Numbers.{number_of, word_of, bit_of, text_of}
+use Rattle.dc_code.specs.State.{On}
+use Rattle.dc_code.specs.Numbers.{number_of, word_of, bit_of}
 use Rattle.dc_code.specs.Blocks.{word_in, words_in, put}
 use Rattle.dc_code.specs.Table.{second_kind, computes}
 use Rattle.dc_code.specs.Perform.{with_words, perform}
@@ -29,16 +26,16 @@ use Rattle.dc_code.specs.declared.instr.Instr.{Instr}
 use Rattle.dc_code.specs.declared.run.Nest.{Nest}
 use Rattle.dc_code.specs.declared.code.Draft.{Draft}
 use Rattle.dc_tree.specs.Values.{num, number_in, number_by, number_of_tree, truth_number}
-use Rattle.dc_tree.specs.Meaning.{State, Goes, Over, Trapped, Part, value_at, with_value, assigned, given, operated}
+use Rattle.dc_tree.specs.Meaning.{State, Goes, Part, value_at, with_value, assigned, given, operated}
 use Rattle.dc_tree.specs.Typed.{type_at, right_kind}
 use Rattle.dc_tree.specs.declared.tree.Variable.{Variable}
 use Rattle.dc_lower_expr.specs.Lowered.{instr, constant_ops, local_ops, assign_ops, binary_ops, compare_ops}
 use Rattle.dc_lower_expr.specs.Frames.{slot_of, word, fine_at}
-use Rattle.dc_lower_expr.proofs.Steps.{Leads, here, leads, one}
+use Rattle.dc_lower_expr.proofs.Steps.{Leads, one}
 use Rattle.dc_lower_expr.proofs.Seams.{take_more, put_middle}
 use Rattle.dc_lower_expr.proofs.Words.{reads, truth_word, truth_in_kind}
-use Rattle.dc_lower_expr.proofs.Locals.{words_of, Good, Stands, stands}
-use Rattle.dc_lower_expr.proofs.Follow.{Here, front, having, at, Form, value, pair, unit, M, Went, Gives, Operates, fixed, front_length, answers, operand}
+use Rattle.dc_lower_expr.proofs.Locals.{words_of, Good, stands}
+use Rattle.dc_lower_expr.proofs.Follow.{Here, front, having, at, Form, value, pair, unit, M, Gives, Operates, fixed, front_length, answers, operand}
 
 -- the form of numbers of a kind
 abbrev pub number : Kind → Form

@@ -1,5 +1,5 @@
 -- The machine prints.
-use Rattle.std.proofs.Common.{◌≡◌, ℕ, zero, suc, ◌+◌, ◌<◌, ◌≤◌, Bool, true, false, List, [], ◌∷◌, ◌++◌, length, map, drop, Some, refl, sym, ap, ap₂, ◌∙◌, subst, arith, append_assoc, append-nil, length-append, length-drop}
+use Rattle.std.proofs.Common.{◌≡◌, ℕ, ◌+◌, ◌≤◌, Bool, true, false, List, [], ◌∷◌, ◌++◌, length, map, drop, Some, refl, sym, ap, ap₂, ◌∙◌, subst, arith, append_assoc, append-nil, length-append, length-drop}
 use Rattle.std.proofs.lemmas.List.{get_or_at}
 use Rattle.std.specs.Prelude.{slice_index, slice_get, if◌then◌else◌}
 use Rattle.dc_types.specs.declared.kind.Kind.{Kind}
@@ -12,17 +12,15 @@ use Rattle.dc_types.specs.declared.value.Value.{Value}
 use Rattle.dc_types.specs.declared.event.Event.TheVariants.{Print}
 use Rattle.dc_types.specs.declared.event.Limits.{Limits}
 use Rattle.dc_types.specs.Integers.{InKind}
-use Rattle.dc_code.specs.State.{Machine, Run, On, Done}
+use Rattle.dc_code.specs.State.{Machine, On}
 use Rattle.dc_code.specs.Numbers.{text_of}
-use Rattle.dc_code.specs.Blocks.{put}
 use Rattle.dc_code.specs.Exec.{first_blocks}
 use Rattle.dc_code.specs.declared.instr.Op.TheVariants as op
-use Rattle.dc_code.specs.declared.instr.Instr.{Instr}
 use Rattle.dc_code.specs.declared.run.Nest.{Nest}
 use Rattle.dc_code.specs.declared.code.Draft.{Draft}
 use Rattle.dc_tree.specs.Values as tree
 use Rattle.dc_tree.specs.Values.{number_in, nothing, text_by, texts_of}
-use Rattle.dc_tree.specs.Meaning.{State, Goes, Part, happens, printed}
+use Rattle.dc_tree.specs.Meaning.{State, Goes, happens, printed}
 use Rattle.dc_tree.specs.declared.tree.Variable.{Variable}
 use Rattle.dc_lower_expr.specs.Lowered.{instr, kind_by, kind_of, put_ops, line_ops, print_ops}
 use Rattle.dc_lower_expr.proofs.Steps.{HasAt, has_front, has_back, Leads, here, leads, one}
@@ -30,7 +28,7 @@ use Rattle.dc_lower_expr.proofs.Seams.{put_more}
 use Rattle.dc_lower_expr.proofs.Words.{same_text, line_text}
 use Rattle.dc_lower_expr.specs.Frames.{word}
 use Rattle.dc_lower_expr.proofs.Locals.{Good}
-use Rattle.dc_lower_expr.proofs.Follow.{Here, front, having, at, Form, value, M, Went, Operates, fixed, front_length, operand, after}
+use Rattle.dc_lower_expr.proofs.Follow.{Here, front, having, Form, value, M, Went, Operates, fixed, front_length, operand, after}
 
 -- a value that is a number of the kind that its type says
 pub record IsNumber (ty : Ty) (v : Value) : Type 0 where

@@ -1,14 +1,13 @@
 -- Numbers as words.
-use Rattle.std.proofs.Common.{rules, ◌≡◌, ℕ, zero, suc, ◌+◌, ◌-◌, ◌<◌, ◌≤◌, ◌%◌, ◌^◌, ◌==◌, Bool, true, false, List, [], ◌∷◌, refl, sym, ap, ap₂, ◌∙◌, subst, arith, ne_eqb, ℤ, pos, negsuc, neg_ℤ, ◌≤ℤ◌, ◌<ℤ◌}
+use Rattle.std.proofs.Common.{◌≡◌, ℕ, ◌+◌, ◌-◌, ◌==◌, Bool, true, false, [], ◌∷◌, refl, sym, ap, ◌∙◌, subst, arith, ℤ, pos}
 use Rattle.std.specs.Prelude.{unsigned_abs, codes, if◌then◌else◌}
 use Rattle.std.specs.Fmt.{signed_decimal}
-use Rattle.std.specs.Int.{int_rem_euclid}
 use Rattle.std.specs.Ordering.{int_eq}
 use Rattle.dc_types.specs.declared.kind.Kind.{Kind}
 use Rattle.dc_types.specs.declared.kind.Kind.TheVariants as kind
-use Rattle.dc_types.specs.Integers.{InKind, bits_of, residue, wrap, truth, least, greatest}
+use Rattle.dc_types.specs.Integers.{InKind, bits_of, residue, wrap, truth}
 use Rattle.std.proofs.lemmas.Bool.Decides.{Decides-eqb, Decides-int_eq, Decides-like, same_from_decides}
-use Rattle.dc_types.proofs.Integers.{residue_small, residue-residue, wrap_same, wrap_in_kind, in_kind_wide, by_bool, by_digit, bits_of_at_most}
+use Rattle.dc_types.proofs.Integers.{residue_small, residue-residue, wrap_same, wrap_in_kind, by_bool, by_digit, bits_of_at_most}
 use Rattle.dc_types.proofs.Values.{zero_in_kind, one_in_kind}
 use Rattle.dc_code.specs.Numbers.{number_of, word_of, bit_of, byte_of, text_of}
 use Rattle.dc_tree.specs.Values.{number_text, truth_number}

@@ -1,5 +1,5 @@
 -- The code of an expression.
-use Rattle.std.specs.Prelude.{ℕ, ◌+◌, Bool, true, false, List, [], ◌∷◌, ◌++◌, length}
+use Rattle.std.specs.Prelude.{ℕ, ◌+◌, Bool, true, false, List, [], ◌∷◌, ◌++◌, length, map}
 use Rattle.dc_types.specs.declared.kind.Kind.{Kind}
 use Rattle.dc_types.specs.declared.kind.Kind.TheVariants as kind
 use Rattle.dc_types.specs.declared.kind.BinOp.{BinOp}
@@ -14,6 +14,7 @@ use Rattle.dc_code.specs.declared.instr.Op.{Op}
 use Rattle.dc_code.specs.declared.instr.Op.TheVariants as op
 use Rattle.dc_code.specs.declared.instr.Instr.{Instr}
 use Rattle.dc_tree.specs.Values.{number_of_tree}
+use Rattle.dc_tree.specs.declared.tree.Operation.{Operation}
 use Rattle.dc_tree.specs.declared.tree.Tree.{Tree}
 use Rattle.dc_tree.specs.declared.tree.Tree.TheOpen.{Tree-F}
 use Rattle.dc_tree.specs.declared.tree.Tree.TheFolds.{fold-Tree}
@@ -42,6 +43,11 @@ abbrev pub each_code : List Codes → Codes
 each_code [] pc spare = []
 each_code (c ∷ cs) pc spare = c pc spare ++ each_code cs (pc + length (c pc spare)) (spare + 1)
 
+-- codes one behind the other, from the same slots on
+abbrev pub block_code : List Codes → Codes
+block_code [] pc spare = []
+block_code (c ∷ cs) pc spare = c pc spare ++ block_code cs (pc + length (c pc spare)) spare
+
 -- operands, and instructions on the slots in which they stand
 abbrev pub then_ops : Codes → (ℕ → List Instr) → Codes
 then_ops c ops pc spare = c pc spare ++ ops spare
@@ -58,6 +64,17 @@ assign_ops place slot d = instr place (op.Copy slot d 1) ∷ []
 
 abbrev pub binary_ops : Place → BinOp → Kind → ℕ → List Instr
 binary_ops place o k d = instr place (op.Binary o k d d (d + 1)) ∷ []
+
+-- an operation on the value in the first slot: its operand takes the next one, and its value comes in the first one's place
+abbrev pub operation_code : Place → Kind → Operation Codes → Codes
+operation_code place k o pc spare = o.operand pc (spare + 1) ++ binary_ops place o.operator k spare
+
+-- the operations of a chain, one behind the other
+abbrev pub operations_code : Place → Kind → List (Operation Codes) → Codes
+operations_code place k os = block_code (map (operation_code place k) os)
+
+abbrev pub chain_code : Place → Kind → Codes → List (Operation Codes) → Codes
+chain_code place k first rest pc spare = first pc spare ++ operations_code place k rest (pc + length (first pc spare)) spare
 
 abbrev pub compare_ops : Place → CmpOp → Kind → ℕ → List Instr
 compare_ops place o k d = instr place (op.Compare o k d d (d + 1)) ∷ []
@@ -89,7 +106,7 @@ abbrev pub tree_code_step : Names → Tree-F Codes → Codes
 tree_code_step names (Tree-F.Constant place c) = then_ops no_code (constant_ops place c)
 tree_code_step names (Tree-F.Local place v) = then_ops no_code (local_ops place (names.slot v.place))
 tree_code_step names (Tree-F.Assign place v e) = then_ops e (assign_ops place (names.slot v.place))
-tree_code_step names (Tree-F.Binary place o k a b) = then_ops (two_code a b) (binary_ops place o k)
+tree_code_step names (Tree-F.Chain place k first rest) = chain_code place k first rest
 tree_code_step names (Tree-F.Compare place o k a b) = then_ops (two_code a b) (compare_ops place o k)
 tree_code_step names (Tree-F.Call place f ty args) = then_ops (each_code args) (call_ops place (names.function f))
 tree_code_step names (Tree-F.Print place tys args line) = then_ops (each_code args) (print_ops place tys line)

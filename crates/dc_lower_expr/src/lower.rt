@@ -1,13 +1,14 @@
 // The code of an expression.
 ghost use Rattle.std.specs.Prelude.{◌≡◌, ◌+◌, ◌≤◌, ◌∷◌, [], ◌++◌, length, map, OnOk, IfOk};
-ghost use Rattle.dc_tree.specs.Weight.{sum, tree_weight};
-ghost use Rattle.dc_lower_expr.specs.Lowered.{instr, each_code, put_ops, line_ops, print_ops, tree_code};
+ghost use Rattle.dc_tree.specs.Weight.{sum, operations_weight, tree_weight};
+ghost use Rattle.dc_tree.specs.Nodes.{operation_with};
+ghost use Rattle.dc_lower_expr.specs.Lowered.{instr, each_code, operations_code, put_ops, line_ops, print_ops, tree_code};
 ghost use Rattle.dc_lower_expr.specs.Slots.{names_of};
 
 use crate::Slots;
 use crate::word::{kind_of, number, word};
 use dc_code::{Draft, Instr, Op};
-use dc_tree::Tree;
+use dc_tree::{Operation, Tree};
 use dc_types::{Items, Kind, NoMemory, Place, Ty, copy_place};
 use std::alloc::Global;
 
@@ -99,15 +100,9 @@ pub fn lower_at(
             lower_at(alloc, e.get(), at, spare, instrs)?;
             put_op(alloc, instrs, place, Op::Copy(at.slot(&v.place), spare, 1))
         }
-        Tree::Binary(place, op, kind, a, b) => {
-            lower_at(alloc, a.get(), at, spare, instrs)?;
-            lower_at(alloc, b.get(), at, spare + 1, instrs)?;
-            put_op(
-                alloc,
-                instrs,
-                place,
-                Op::Binary(*op, *kind, spare, spare, spare + 1),
-            )
+        Tree::Chain(place, kind, first, rest) => {
+            lower_at(alloc, first.get(), at, spare, instrs)?;
+            lower_operations(alloc, place, *kind, rest.as_slice(), at, spare, instrs)
         }
         Tree::Compare(place, op, kind, a, b) => {
             lower_at(alloc, a.get(), at, spare, instrs)?;
@@ -130,6 +125,32 @@ pub fn lower_at(
             put_op(alloc, instrs, place, Op::Flush)
         }
     }
+}
+
+/// The operations of a chain work on the value in the slot `spare`, and leave theirs there.
+#[cycle(lower)]
+fn lower_operations(
+    alloc: Global,
+    place: &Place,
+    kind: Kind,
+    operations: &[Operation<Tree>],
+    at: &Slots,
+    spare: u32,
+    instrs: &mut Items<Instr>,
+) -> Result<(), NoMemory>
+    requires { spare + operations_weight (map (operation_with tree_weight) operations.now) ≤ 4194304 }
+    ensures { OnOk result (instrs.new ≡ instrs.old ++ operations_code place.now kind (map (operation_with (tree_code (names_of at.now))) operations.now) (length instrs.old) spare) }
+{
+    for o in operations {
+        lower_at(alloc, &o.operand, at, spare + 1, instrs)?;
+        put_op(
+            alloc,
+            instrs,
+            place,
+            Op::Binary(o.operator, kind, spare, spare, spare + 1),
+        )?;
+    }
+    Ok(())
 }
 
 /// Each value stands in the slot behind the one before.

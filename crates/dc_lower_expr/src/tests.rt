@@ -1,7 +1,7 @@
 // The code of an expression, by hand.
 use crate::{Slots, Table, lower_expr};
 use dc_code::{Draft, Op};
-use dc_tree::{Tree, Variable, tree_weight};
+use dc_tree::{Operation, Tree, Variable, tree_weight};
 use dc_types::{BinOp, CTree, Const, Items, Kind, NoMemory, Place, Step, Text, Ty};
 use sqlite_items::{Boxed, Items as Children};
 use std::alloc::Global;
@@ -25,37 +25,72 @@ fn number(alloc: Global, at: u32, n: i128) -> Result<Tree, NoMemory> {
     ))
 }
 
-/// `writeln(v - f(-1, 2))`, where v is declared at 1 and f at 2
-fn line(alloc: Global) -> Result<Tree, NoMemory> {
+/// `f(-1, 2)`, where f is declared at 2
+fn call(alloc: Global) -> Result<Tree, NoMemory> {
     let mut args = Children::new(alloc);
     args.push(number(alloc, 10, -1)?)?;
     args.push(number(alloc, 11, 2)?)?;
-    let call = Tree::Call(
+    Ok(Tree::Call(
         place(alloc, 12)?,
         place(alloc, 2)?,
         Ty::Int(Kind::I32),
         args,
-    );
+    ))
+}
+
+/// v, which is declared at 1
+fn variable(alloc: Global) -> Result<Tree, NoMemory> {
     let v = Variable {
         place: place(alloc, 1)?,
         ty: Ty::Int(Kind::I32),
     };
-    let difference = Tree::Binary(
-        place(alloc, 13)?,
-        BinOp::Sub,
-        Kind::I32,
-        Boxed::new(alloc, Tree::Local(place(alloc, 14)?, v))?,
-        Boxed::new(alloc, call)?,
-    );
+    Ok(Tree::Local(place(alloc, 14)?, v))
+}
+
+fn difference(alloc: Global, first: Tree, operand: Tree) -> Result<Tree, NoMemory> {
+    let mut rest = Children::new(alloc);
+    rest.push(Operation {
+        operator: BinOp::Sub,
+        operand,
+    })?;
+    let first = Boxed::new(alloc, first)?;
+    Ok(Tree::Chain(place(alloc, 13)?, Kind::I32, first, rest))
+}
+
+fn print(alloc: Global, shown: Tree) -> Result<Tree, NoMemory> {
     let mut types = Items::new(alloc);
     types.push(Ty::Int(Kind::I32))?;
-    let mut shown = Children::new(alloc);
-    shown.push(difference)?;
-    Ok(Tree::Print(place(alloc, 15)?, types, shown, true))
+    let mut args = Children::new(alloc);
+    args.push(shown)?;
+    Ok(Tree::Print(place(alloc, 15)?, types, args, true))
+}
+
+/// `writeln(v - f(-1, 2))`
+fn line(alloc: Global) -> Result<Tree, NoMemory> {
+    let operand = call(alloc)?;
+    let shown = difference(alloc, variable(alloc)?, operand)?;
+    print(alloc, shown)
+}
+
+/// `1 + 1 + .. + 1`, with so many operators
+fn long_sum(alloc: Global, count: u32) -> Result<Tree, NoMemory> {
+    let mut rest = Children::new(alloc);
+    for _ in 0..count {
+        rest.push(Operation {
+            operator: BinOp::Add,
+            operand: number(alloc, 10, 1)?,
+        })?;
+    }
+    Ok(Tree::Chain(
+        place(alloc, 10)?,
+        Kind::I32,
+        Boxed::new(alloc, number(alloc, 10, 1)?)?,
+        rest,
+    ))
 }
 
 /// v has slot 3, f the number 9, and the slots from 5 on are free.
-fn lowered(alloc: Global) -> Result<Draft, NoMemory> {
+fn lowered(alloc: Global, e: &Tree) -> Result<Draft, NoMemory> {
     let mut named = Table::new(alloc);
     named.put(place(alloc, 1)?, 3)?;
     let mut functions = Table::new(alloc);
@@ -72,11 +107,20 @@ fn lowered(alloc: Global) -> Result<Draft, NoMemory> {
         globals: Items::new(alloc),
         entries: Items::new(alloc),
     };
-    let e = line(alloc)?;
-    if tree_weight(&e) < 100 {
-        lower_expr(alloc, &e, &at, &mut draft)?;
+    if tree_weight(e) < 4000000 {
+        lower_expr(alloc, e, &at, &mut draft)?;
     }
     Ok(draft)
+}
+
+fn lowered_line(alloc: Global) -> Result<Draft, NoMemory> {
+    let e = line(alloc)?;
+    lowered(alloc, &e)
+}
+
+fn lowered_sum(alloc: Global, count: u32) -> Result<Draft, NoMemory> {
+    let e = long_sum(alloc, count)?;
+    lowered(alloc, &e)
 }
 
 static WANTED: [Op; 9] = [
@@ -94,7 +138,7 @@ static WANTED: [Op; 9] = [
 #[test]
 fn operands_stand_in_their_slots(rt: HostRuntime) {
     let alloc = rt.alloc();
-    let Ok(draft) = lowered(alloc) else {
+    let Ok(draft) = lowered_line(alloc) else {
         let told = false;
         assert!(rt; told);
         return;
@@ -106,4 +150,17 @@ fn operands_stand_in_their_slots(rt: HostRuntime) {
         let same = i.op == *wanted;
         assert!(rt; same);
     }
+}
+
+/// A chain is one node however long it is: its tree is made, weighed, lowered and dropped without a call for each operator
+/// inside that of the one before.
+#[test]
+fn a_long_chain_is_flat(rt: HostRuntime) {
+    let Ok(draft) = lowered_sum(rt.alloc(), 100000) else {
+        let told = false;
+        assert!(rt; told);
+        return;
+    };
+    let count = draft.instrs.len();
+    assert!(rt; count == 200001);
 }

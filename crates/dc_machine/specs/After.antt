@@ -13,31 +13,12 @@ use Rattle.dc_code.specs.declared.run.Caller.{Caller}
 use Rattle.dc_code.specs.declared.instr.Function.{Function}
 use Rattle.dc_code.specs.declared.instr.Op.{Op}
 use Rattle.dc_code.specs.declared.instr.Op.TheVariants as op
+pub use Rattle.dc_code.specs.Simple.{IsSimple}
 use Rattle.dc_machine.specs.declared.state.State.{State}
 use Rattle.dc_machine.specs.declared.state.Next.{Next}
 use Rattle.dc_machine.specs.declared.state.Next.TheVariants.{Goes, Turns, Enters, Takes, Prints, Stops, TooDeep}
 use Rattle.dc_machine.specs.declared.state.Stop.{Stop}
 use Rattle.dc_machine.specs.declared.state.Stop.TheVariants as stop
-
--- the instructions that the machine runs
-abbrev pub IsSimple : Op → Type 0
-IsSimple (op.Const d w) = Unit {0}
-IsSimple (op.Copy d s n) = Unit {0}
-IsSimple (op.Binary o k d a b) = Unit {0}
-IsSimple (op.Unary o k d a) = Unit {0}
-IsSimple (op.Compare o k d a b) = Unit {0}
-IsSimple (op.Cast k d a) = Unit {0}
-IsSimple (op.Jump t) = Unit {0}
-IsSimple (op.JumpZero s t) = Unit {0}
-IsSimple (op.JumpOther s t) = Unit {0}
-IsSimple op.Turn = Unit {0}
-IsSimple (op.Call f a d) = Unit {0}
-IsSimple (op.Return s n) = Unit {0}
-IsSimple (op.PutInt k s) = Unit {0}
-IsSimple (op.PutData g) = Unit {0}
-IsSimple op.Flush = Unit {0}
-IsSimple (op.Check s t) = Unit {0}
-IsSimple _ = ⊥
 
 abbrev pub machine_of : Draft → State → ℕ → List Event → Machine
 machine_of code s taken events = record {

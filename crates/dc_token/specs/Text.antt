@@ -1,5 +1,5 @@
 -- The tokens of a text.
-use Rattle.std.specs.Prelude.{◌≡◌, ◌≢◌, ◌<◌, ℕ, ◌+◌, Bool, true, false, ◌&&◌, ◌||◌, ◌==◌, is_some, if◌then◌else◌, List, [], ◌∷◌, ◌++◌, length, drop}
+use Rattle.std.specs.Prelude.{◌≡◌, ◌≢◌, ◌<◌, ◌≤◌, ◌⊎◌, ℕ, ◌+◌, Bool, true, false, ◌&&◌, ◌||◌, ◌==◌, is_some, if◌then◌else◌, List, [], ◌∷◌, ◌++◌, length, drop}
 use Rattle.dc_token.specs.Balance.{Bytes}
 use Rattle.dc_token.specs.Vocabulary.{word_class}
 use Rattle.dc_token.specs.Literals.{last_byte, holds_entity, character_of}
@@ -107,15 +107,43 @@ abbrev pub bytes_of : List Piece → Bytes
 bytes_of [] = []
 bytes_of (p ∷ ps) = p.1 ++ bytes_of ps
 
--- Spellings and what lies between them make the text again.
+-- From its front on, the text is cut into these pieces, and the last text is left. Each piece is the next item where it stands.
+pub data Cut : Bytes → List Piece → Bytes → Type 0 where
+  none : {t : Bytes} → Cut t [] t
+  more : {t : Bytes} {kind : Item} {w rest : Bytes} {ps : List Piece} {u : Bytes} → Next Spells t kind w rest → Cut rest ps u → Cut t ((kind, w) ∷ ps) u
+
+-- Spellings and what lies between them make the text again, and all of it is items.
 pub record Rebuilt (at : ℕ) (t : Bytes) (ts : List Token) : Type 0 where
   pub pieces : List Piece
   pub whole : bytes_of pieces ≡ t
   pub tokens : tokens_of at pieces ≡ ts
+  pub cut : Cut t pieces []
 
 -- Behind a first EF BB BF, the tokens and the white space and comments between them are the text.
 abbrev pub Rebuilds : Type 0
 Rebuilds = (text : Bytes) (ts : List Token) → ReadsAs text ts → Rebuilt (mark_len text) (drop (mark_len text) text) ts
+
+-- The front of a text up to a text that is left is white space and comments: none, or several, each the next item where it stands.
+pub data Gap : Bytes → Bytes → Type 0 where
+  none : {t : Bytes} → Gap t t
+  more : {t : Bytes} {kind : Item} {w rest u : Bytes} → Next Spells t kind w rest → is_token kind ≡ false → Gap rest u → Gap t u
+
+-- the token's spelling stands between its offsets, and is the next item there
+pub record StandsAt (text : Bytes) (t : Token) : Type 0 where
+  pub item : Item
+  pub next : Next Spells (drop t.start text) item t.spelling (drop t.end text)
+  pub counts : is_token item ≡ true
+  pub end : t.end ≡ t.start + length t.spelling
+  pub kind : t.kind ≡ kind_of item t.spelling
+
+-- From an offset on, the tokens stand in the text in their order, and before, between and behind them are gaps alone.
+pub data Laid (text : Bytes) : ℕ → List Token → Type 0 where
+  last : {from : ℕ} → Gap (drop from text) [] → Laid text from []
+  next : {from : ℕ} {t : Token} {ts : List Token} → from ≤ t.start → Gap (drop from text) (drop t.start text) → StandsAt text t → Laid text t.end ts → Laid text from (t ∷ ts)
+
+-- Behind a first EF BB BF, all that stands before, between and behind the tokens of a text is white space and comments.
+abbrev pub GapsBetween : Type 0
+GapsBetween = (text : Bytes) (ts : List Token) → ReadsAs text ts → Laid text (mark_len text) ts
 
 -- a text has at most one list of tokens
 abbrev pub OneReading : Type 0
@@ -128,3 +156,7 @@ OneStop = (text : Bytes) (n m : ℕ) → StuckAt text n → StuckAt text m → m
 -- and never both
 abbrev pub Apart : Type 0
 Apart = (text : Bytes) (ts : List Token) (n : ℕ) → ReadsAs text ts → StuckAt text n → ⊥
+
+-- A text has tokens, or an offset at which it is unreadable. It has not both, by the fields of the two.
+abbrev pub Divides : Bytes → Type 0
+Divides text = ((ts : List Token) × IsTokens text ts) ⊎ ((at : ℕ) × IsUnreadable text at)

@@ -35,7 +35,7 @@ fn is_wide(spelling: &[u8]) -> bool
     last == b'w' || last == b'd'
 }
 
-#[tactic(auto, unfolding(crate::specs::Signs::is_outside_sign))]
+#[tactic(auto, using(crate::proofs::Spelled::signs_spelled), unfolding(crate::specs::Signs::is_outside_sign))]
 fn is_outside_sign(spelling: &[u8]) -> bool
     ensures { result ≡ signs.is_outside_sign spelling.now }
 {

@@ -3,6 +3,7 @@ use crate::{
     Class, Integer, IntegerType, Item, TokenKind, Word, character, class_of, escape_len, integer,
     kind_of, string_value, word,
 };
+use std::alloc::{AllocError, Global};
 use std::test::Fail;
 
 #[test]
@@ -23,6 +24,167 @@ fn classes_of_characters(rt: HostRuntime) {
     for (c, want) in rows {
         assert!(rt; class_of(c) == want, "at {c}");
     }
+}
+
+/// The keywords that the compiler reads, spelled anew.
+const READ_WORDS: [&[u8]; 50] = [
+    b"alias",
+    b"assert",
+    b"auto",
+    b"bool",
+    b"break",
+    b"byte",
+    b"case",
+    b"cast",
+    b"char",
+    b"const",
+    b"continue",
+    b"default",
+    b"do",
+    b"else",
+    b"enum",
+    b"false",
+    b"for",
+    b"foreach",
+    b"if",
+    b"immutable",
+    b"import",
+    b"int",
+    b"is",
+    b"long",
+    b"mixin",
+    b"module",
+    b"new",
+    b"nothrow",
+    b"null",
+    b"private",
+    b"public",
+    b"pure",
+    b"ref",
+    b"return",
+    b"short",
+    b"static",
+    b"struct",
+    b"switch",
+    b"template",
+    b"this",
+    b"true",
+    b"typeof",
+    b"ubyte",
+    b"uint",
+    b"ulong",
+    b"ushort",
+    b"version",
+    b"void",
+    b"while",
+    b"__traits",
+];
+
+/// The keywords of D that it leaves out, spelled anew.
+const LEFT_OUT_WORDS: [&[u8]; 44] = [
+    b"abstract",
+    b"align",
+    b"asm",
+    b"catch",
+    b"cent",
+    b"class",
+    b"dchar",
+    b"debug",
+    b"delegate",
+    b"delete",
+    b"deprecated",
+    b"double",
+    b"export",
+    b"extern",
+    b"final",
+    b"finally",
+    b"float",
+    b"foreach_reverse",
+    b"function",
+    b"goto",
+    b"in",
+    b"inout",
+    b"interface",
+    b"invariant",
+    b"lazy",
+    b"macro",
+    b"out",
+    b"override",
+    b"package",
+    b"pragma",
+    b"protected",
+    b"real",
+    b"scope",
+    b"shared",
+    b"super",
+    b"synchronized",
+    b"throw",
+    b"try",
+    b"typeid",
+    b"ucent",
+    b"union",
+    b"unittest",
+    b"wchar",
+    b"with",
+];
+
+#[test]
+fn words_that_are_read(rt: HostRuntime) {
+    for bytes in READ_WORDS {
+        assert!(rt; word(bytes) == Word::Used);
+    }
+}
+
+#[test]
+fn words_that_are_left_out(rt: HostRuntime) {
+    for bytes in LEFT_OUT_WORDS {
+        assert!(rt; word(bytes) == Word::Outside);
+    }
+}
+
+/// The keyword with its first letter in upper case.
+fn capitalised(alloc: Global, bytes: &[u8]) -> Result<Vec<u8>, AllocError> {
+    let mut word = Vec::new(alloc);
+    for (at, b) in bytes.iter().enumerate() {
+        let b = if at == 0 { b.to_ascii_uppercase() } else { *b };
+        word.push(b)?;
+    }
+    Ok(word)
+}
+
+/// The keyword with `_` behind it.
+fn barred(alloc: Global, bytes: &[u8]) -> Result<Vec<u8>, AllocError> {
+    let mut word = Vec::from_slice(alloc, bytes)?;
+    word.push(b'_')?;
+    Ok(word)
+}
+
+/// What words near a keyword are; `in` is the one keyword that is another without its last byte.
+fn are_near_misses(alloc: Global, keyword: &[u8]) -> Result<bool, AllocError> {
+    let want = if keyword == b"__traits".as_slice() {
+        Word::Outside
+    } else {
+        Word::Plain
+    };
+    let is_capital = keyword == b"__traits".as_slice()
+        || word(&capitalised(alloc, keyword)?) == want;
+    let is_barred = word(&barred(alloc, keyword)?) == want;
+    let is_short = match keyword {
+        [front @ .., _] => front == b"in".as_slice() || word(front) == want,
+        [] => false,
+    };
+    Ok(is_capital && is_barred && is_short)
+}
+
+#[test]
+fn words_near_keywords(rt: HostRuntime) -> Result<(), AllocError> {
+    for keyword in READ_WORDS {
+        assert!(rt; are_near_misses(rt.alloc(), keyword)?);
+    }
+    for keyword in LEFT_OUT_WORDS {
+        assert!(rt; are_near_misses(rt.alloc(), keyword)?);
+    }
+    Ok(())
 }
 
 #[test]

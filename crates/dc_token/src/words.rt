@@ -30,14 +30,14 @@ pub(crate) fn is_among(mut table: &[&[u8]], word: &[u8]) -> bool
     false
 }
 
-#[tactic(auto, unfolding(crate::specs::Vocabulary::is_used))]
+#[tactic(auto, using(crate::proofs::Spelled::used_spelled), unfolding(crate::specs::Vocabulary::is_used))]
 fn is_used(word: &[u8]) -> bool
     ensures { result ≡ vocabulary.is_used word.now }
 {
     is_among(&USED, word)
 }
 
-#[tactic(auto, unfolding(crate::specs::Vocabulary::is_listed_outside))]
+#[tactic(auto, using(crate::proofs::Spelled::outside_spelled), unfolding(crate::specs::Vocabulary::is_listed_outside))]
 fn is_listed_outside(word: &[u8]) -> bool
     ensures { result ≡ vocabulary.is_listed_outside word.now }
 {

@@ -72,6 +72,9 @@ module _ (job : Option (List ℕ)) (told : Option FileMap) (before now : ℕ) (o
         elim a [ inl p ↦ subst (λ b. AppendsFront out out' (output_of b)) (one_run job told p.0.body body some p.0.run run) p.0.took | inr k ↦ kept_front out out' (output_of body) k.0 ]
     run_says status.NoMemory a body run read =
         elim a.0 [ inl p ↦ subst (λ b. AppendsFront out out' (output_of b)) (one_run job told p.body body some p.run run) p.took | inr k ↦ kept_front out out' (output_of body) k ]
+    run_says status.Trapped a body run read = a
+    run_says status.Bound a body run read = a
+    run_says status.EndedWith a body run read = a
 
     pub refusal_says : (result : Status) → Is result → (line : List ℕ) → IsRefused job told line → (result ≡ status.ReadFault → ⊥) → IsOrFails status.Refused result
     refusal_says status.Usage a line is read = absurd (no_job_here job is.file a.1.due.no_job is.of_job)
@@ -80,6 +83,9 @@ module _ (job : Option (List ℕ)) (told : Option FileMap) (before now : ℕ) (o
     refusal_says status.ReadFault a line is read = absurd (read refl)
     refusal_says status.WriteFault a line is read = inr (inl refl)
     refusal_says status.NoMemory a line is read = inr (inr refl)
+    refusal_says status.Trapped a line is read = absurd a
+    refusal_says status.Bound a line is read = absurd a
+    refusal_says status.EndedWith a line is read = absurd a
 
 -- a read fault has its cause in the library
 pub read_says : (job : Option (List ℕ)) (told : Option FileMap) (result : Status) (before now : ℕ) → (result ≡ status.ReadFault → Rose before now ⊎ LacksFile job told) →

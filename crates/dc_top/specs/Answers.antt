@@ -99,6 +99,10 @@ Answers job told before now status.ReadFault out out' report report' = Keeps out
 Answers job told before now status.WriteFault out out' report report' =
     (PrintsFront job told out out' × Keeps report report') ⊎ (Keeps out out' × ReportsFront job told before now report report')
 Answers job told before now status.NoMemory out out' report report' = (PrintsFront job told out out' ⊎ Keeps out out') × Keeps report report'
+-- no program of sums traps, turns or ends with a number
+Answers job told before now status.Trapped out out' report report' = ⊥
+Answers job told before now status.Bound out out' report report' = ⊥
+Answers job told before now status.EndedWith out out' report report' = ⊥
 
 -- what is decided before anything is written: the job, the files that are told, and the count of faults before and now
 abbrev pub Decides : Option (List ℕ) → Option FileMap → ℕ → ℕ → Result Plan NoMemory → Type 0
@@ -120,3 +124,6 @@ Follows body status.NoMemory out out' = AppendsFront out out' (output_of body)
 Follows body status.Usage out out' = ⊥
 Follows body status.Refused out out' = ⊥
 Follows body status.ReadFault out out' = ⊥
+Follows body status.Trapped out out' = ⊥
+Follows body status.Bound out out' = ⊥
+Follows body status.EndedWith out out' = ⊥

@@ -1,6 +1,6 @@
 -- The meaning, computed on small parts. A part of a tree stands for the tree by the equations of its fold.
-use Rattle.std.proofs.Common.{◌≡◌, ℕ, List, [], ◌∷◌, ◌++◌, refl, true, ℤ, pos, neg_ℤ}
-use Rattle.std.specs.Prelude.{codes, decimal}
+use Rattle.std.proofs.Common.{◌≡◌, ℕ, List, [], ◌∷◌, ◌++◌, refl, ap₂, ◌∙◌, true, ℤ, pos, neg_ℤ}
+use Rattle.std.specs.Prelude.{codes, decimal, if◌then◌else◌}
 use Rattle.dc_types.specs.declared.place.Place.{Place}
 use Rattle.dc_types.specs.declared.place.Step.TheVariants.{At}
 use Rattle.dc_types.specs.declared.kind.Kind.TheVariants as kind
@@ -17,10 +17,14 @@ use Rattle.dc_types.specs.declared.event.Event.{Event}
 use Rattle.dc_types.specs.declared.event.Event.TheVariants.{Enter, Turn, Print}
 use Rattle.dc_types.specs.declared.event.Limits.{Limits}
 use Rattle.dc_types.specs.Integers.{wrap, binary, compare, residue, signed_residue, can_divide, least}
-use Rattle.dc_tree.specs.Values.{int, void, num, nothing}
-use Rattle.dc_tree.specs.Meaning.{State, Trapped, Bound, Ran, Goes, Over, Part, Calls, tree_step, Flow, Next, block, turns, no_calls, calls_of, begun}
+use Rattle.dc_tree.specs.Values.{int, void, num, nothing, is_zero}
+use Rattle.dc_tree.specs.Meaning.{State, Trapped, Bound, Ran, Goes, Over, Part, and_then, Calls, tree_step, tree_meaning, Flow, Next, Back, block, branched, turns, no_calls, calls_of, begun}
 use Rattle.dc_tree.specs.declared.tree.Variable.{Variable}
+use Rattle.dc_tree.specs.declared.tree.Tree.{Tree}
 use Rattle.dc_tree.specs.declared.tree.Tree.TheOpen.{Tree-F}
+use Rattle.dc_tree.specs.declared.tree.Tree.TheViews.{roll-Tree}
+use Rattle.dc_tree.specs.declared.tree.Tree.TheFolds.{fold-roll-Tree}
+use Rattle.dc_tree.specs.declared.stmt.Branch.{Branch}
 use Rattle.dc_tree.specs.declared.body.Body.{Body}
 
 abbrev at : ℕ → Place
@@ -44,7 +48,7 @@ abbrev with : ℤ → ℕ → List Event → State
 with z n events = record { locals = record { place = at 1; value = num z } ∷ []; left = n; events = events }
 
 abbrev sum : Part Value → Part Value → Part Value
-sum a b = tree_step calls (Tree-F.Binary (at 2) binop.Add kind.I32 a b)
+sum a b = tree_step calls (Tree-F.Chain (at 2) kind.I32 a (record { operator = binop.Add; operand = b } ∷ []))
 
 -- `int.max + 1`
 wraps : sum (number (pos 2147483647)) (number (pos 1)) (begun 0) ≡ Goes (num (neg_ℤ (pos 2147483648))) (begun 0)
@@ -67,8 +71,18 @@ assigned_first : sum (assign (number (pos 1))) read (with (pos 5) 0 []) ≡ Goes
 unfolding wrap binary signed_residue residue can_divide least compare roll-CTree out-CTree roll-Value out-Value denote.Hole.Carrier.roll denote.Hole.Carrier.out
 assigned_first = refl
 
+-- `8 - 3 - 2`: from left to right
+differences : tree_step calls (Tree-F.Chain (at 2) kind.I32 (number (pos 8)) (record { operator = binop.Sub; operand = number (pos 3) } ∷ record { operator = binop.Sub; operand = number (pos 2) } ∷ [])) (begun 0) ≡ Goes (num (pos 3)) (begun 0)
+unfolding wrap binary signed_residue residue can_divide least compare roll-CTree out-CTree roll-Value out-Value denote.Hole.Carrier.roll denote.Hole.Carrier.out
+differences = refl
+
+-- `1 / 0 * (x = 1)`: the trap comes before the operand behind it is evaluated
+stops_there : tree_step calls (Tree-F.Chain (at 7) kind.I32 (number (pos 1)) (record { operator = binop.Div; operand = number (pos 0) } ∷ record { operator = binop.Mul; operand = assign (number (pos 1)) } ∷ [])) (with (pos 5) 0 []) ≡ Over (Trapped Divide (at 7)) []
+unfolding wrap binary signed_residue residue can_divide least compare roll-CTree out-CTree roll-Value out-Value denote.Hole.Carrier.roll denote.Hole.Carrier.out
+stops_there = refl
+
 abbrev ratio : ℤ → ℤ → Part Value
-ratio a b = tree_step calls (Tree-F.Binary (at 7) binop.Div kind.I32 (number a) (number b))
+ratio a b = tree_step calls (Tree-F.Chain (at 7) kind.I32 (number a) (record { operator = binop.Div; operand = number b } ∷ []))
 
 -- `-7 / 2` is rounded towards zero, and `1 / 0` is a trap at its place
 quotient : ratio (neg_ℤ (pos 7)) (pos 2) (begun 0) ≡ Goes (num (neg_ℤ (pos 3))) (begun 0)
@@ -130,3 +144,30 @@ too_deep = refl
 prints : tree_step calls (Tree-F.Print (at 3) (int kind.I32 ∷ int kind.Bool ∷ []) (number (pos 12) ∷ number (pos 1) ∷ []) true) (begun 0) ≡ Goes nothing (record { locals = []; left = 0; events = Print (decimal 12 ++ (codes "true" ++ 10 ∷ [])) ∷ [] })
 unfolding digits roll-Ty out-Ty wrap binary signed_residue residue can_divide least compare roll-CTree out-CTree roll-Value out-Value denote.Hole.Carrier.roll denote.Hole.Carrier.out
 prints = refl
+
+-- a constant condition, whose meaning is that of its first node
+abbrev condition : ℤ → Tree
+condition z = roll-Tree (Tree-F.Constant (at 0) (record { ty = int kind.I32; tree = roll-CTree (CTree-F.Num z) }))
+
+condition_is : (z : ℤ) → tree_meaning calls (condition z) ≡ number z
+condition_is z = fold-roll-Tree (Part Value) (tree_step calls) (Tree-F.Constant (at 0) (record { ty = int kind.I32; tree = roll-CTree (CTree-F.Num z) }))
+
+-- `return z;`, as what a branch does
+abbrev returns : ℤ → List (Part Flow)
+returns z = (λ s. Goes (Back (num z)) s) ∷ []
+
+abbrev branch : ℤ → ℤ → Branch (Part Flow)
+branch c z = record { condition = condition c; body = returns z }
+
+abbrev choice : Part Value → Part Value → Ran Flow
+choice a b = and_then (a (begun 0)) (λ v s. if is_zero v then and_then (b s) (λ v s. if is_zero v then block (returns (pos 3)) s else block (returns (pos 2)) s) else block (returns (pos 1)) s)
+
+-- `if (0) return 1; else if (1) return 2; else return 3;`
+second_taken : branched calls (branch (pos 0) (pos 1) ∷ branch (pos 1) (pos 2) ∷ []) (block (returns (pos 3))) (begun 0) ≡ Goes (Back (num (pos 2))) (begun 0)
+unfolding wrap binary signed_residue residue can_divide least compare roll-CTree out-CTree roll-Value out-Value denote.Hole.Carrier.roll denote.Hole.Carrier.out
+second_taken = ap₂ choice (condition_is (pos 0)) (condition_is (pos 1)) ∙ refl
+
+-- `if (0) return 1; else if (0) return 2; else return 3;`
+last_taken : branched calls (branch (pos 0) (pos 1) ∷ branch (pos 0) (pos 2) ∷ []) (block (returns (pos 3))) (begun 0) ≡ Goes (Back (num (pos 3))) (begun 0)
+unfolding wrap binary signed_residue residue can_divide least compare roll-CTree out-CTree roll-Value out-Value denote.Hole.Carrier.roll denote.Hole.Carrier.out
+last_taken = ap₂ choice (condition_is (pos 0)) (condition_is (pos 0)) ∙ refl

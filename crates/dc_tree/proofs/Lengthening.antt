@@ -3,7 +3,8 @@ use Rattle.std.proofs.Common.{◌≡◌, ℕ, zero, suc, ◌+◌, ◌≤◌, Boo
 use Rattle.std.specs.Prelude.{if◌then◌else◌}
 use Rattle.dc_types.specs.declared.event.Event.{Event}
 use Rattle.dc_tree.specs.Meaning.{State, End, Gave, Trapped, Bound, Missing, Ran, Goes, Over, Part, and_then, tick_by, tick}
-use Rattle.dc_tree.specs.Bounds.{ticks_of, ticks, BeginsWith}
+use Rattle.dc_types.specs.Events.{ticks_of, ticks, BeginsWith}
+use Rattle.dc_types.proofs.Ticks.{ticks-append}
 
 -- ---- fronts
 
@@ -17,8 +18,7 @@ pub begins_more : (xs : List Event) (e : Event) → BeginsWith xs (xs ++ e ∷ [
 begins_more xs e = record { rest = e ∷ []; split = refl }
 
 pub ticks_more : (es : List Event) (e : Event) → ticks (es ++ e ∷ []) ≡ ticks es + ticks_of e
-ticks_more [] e = omega arith
-ticks_more (x ∷ es) e = omega (arith, ticks_more es e)
+ticks_more es e = let all = ticks-append es (e ∷ []) in omega arith
 
 -- ---- ends
 

@@ -1,6 +1,7 @@
 -- A larger bound on ticks lengthens what a meaning does, and changes nothing else.
 use Rattle.std.proofs.Common.{◌≡◌, ℕ, zero, suc, ◌+◌, ◌-◌, ◌≤◌, Bool, List, [], ◌∷◌, ◌++◌, map, Option, Some, None, Result, Ok, Err, refl, sym, ap, subst, arith, ℤ}
 use Rattle.std.specs.Prelude.{if◌then◌else◌}
+use Rattle.dc_types.specs.declared.kind.Kind.{Kind}
 use Rattle.dc_types.specs.declared.place.Place.{Place}
 use Rattle.dc_types.specs.declared.ty.Ty.{Ty}
 use Rattle.dc_types.specs.declared.value.Value.{Value}
@@ -11,13 +12,17 @@ use Rattle.dc_types.specs.declared.event.Limits.{Limits}
 use Rattle.dc_types.specs.Integers.{binary, compare}
 use Rattle.dc_tree.specs.Values.{num, nothing, number_in, number_of_tree, truth_number, is_zero, texts_of}
 use Rattle.dc_tree.specs.Weight.{body_weight}
-use Rattle.dc_tree.specs.Meaning.{State, End, Gave, Trapped, Bound, Missing, Ran, Goes, Over, Part, and_then, both, each, tick, value_at, with_value, assigned, given, operated, printed, Calls, tree_step, tree_meaning, Flow, Next, Back, next_or, block, turns, stmt_step, stmt_meaning, stmts_meaning, Opened, is_too_deep, within, frame, body_at, result_of, enter, calls_of, begun, no_calls, outcome}
-use Rattle.dc_tree.specs.Bounds.{ticks, BeginsWith, TicksBound}
+use Rattle.dc_tree.specs.Meaning.{State, End, Gave, Trapped, Bound, Missing, Ran, Goes, Over, Part, and_then, both, each, tick, value_at, with_value, assigned, given, operated, chained, printed, Calls, tree_step, tree_meaning, Flow, Next, Back, next_or, block, branched, turns, stmt_step, stmt_meaning, stmts_meaning, Opened, is_too_deep, within, frame, body_at, result_of, enter, calls_of, begun, no_calls, outcome}
+use Rattle.dc_types.specs.Events.{ticks, BeginsWith}
+use Rattle.dc_tree.specs.Bounds.{TicksBound}
+use Rattle.dc_tree.specs.Nodes.{operation_with, branch_with}
 use Rattle.dc_tree.specs.Typed.{Each}
+use Rattle.dc_tree.specs.declared.tree.Operation.{Operation}
 use Rattle.dc_tree.specs.declared.tree.Tree.{Tree}
 use Rattle.dc_tree.specs.declared.tree.Tree.TheOpen.{Tree-F}
 use Rattle.dc_tree.specs.declared.tree.Tree.TheViews.{roll-Tree}
 use Rattle.dc_tree.specs.declared.tree.Tree.TheFolds.{map-Tree, fold-roll-Tree, ind-Tree}
+use Rattle.dc_tree.specs.declared.stmt.Branch.{Branch}
 use Rattle.dc_tree.specs.declared.stmt.Stmt.{Stmt}
 use Rattle.dc_tree.specs.declared.stmt.Stmt.TheOpen.{Stmt-F}
 use Rattle.dc_tree.specs.declared.stmt.Stmt.TheViews.{roll-Stmt}
@@ -65,6 +70,15 @@ module _ (n : ℕ) where
         then_pair n p q (λ x s. and_then (p' s) (λ y s. Goes (x, y) s)) (λ x s. and_then (q' s) (λ y s. Goes (x, y) s)) f
         (λ x. then_pair n p' q' (λ y s. Goes (x, y) s) (λ y s. Goes (x, y) s) g (λ y. goes_pair n (x, y)))
 
+  module _ (place : Place) (k : Kind) (p q : Tree → Part Value) where
+    chained_pair : (os : List (Operation Tree)) → Each (λ o. Pair n (p o.operand) (q o.operand)) os → (x : Value) → Pair n (chained place k (map (operation_with p) os) x) (chained place k (map (operation_with q) os) x)
+    chained_pair [] h x = goes_pair n x
+    chained_pair (o ∷ os) h x =
+        let go = chained place k (map (operation_with p) os) in
+        let go' = chained place k (map (operation_with q) os) in
+        then_pair n (p o.operand) (q o.operand) (λ y s. and_then (operated place o.operator k (x, y) s) go) (λ y s. and_then (operated place o.operator k (x, y) s) go') h.0
+        (λ y. then_pair n (operated place o.operator k (x, y)) (operated place o.operator k (x, y)) go go' (given_pair place (binary o.operator k (number_in x) (number_in y))) (chained_pair os h.1))
+
   module _ {X A : Type 0} (p q : X → Part A) where
     each_pair : (xs : List X) → Each (λ x. Pair n (p x) (q x)) xs → Pair n (each (map p xs)) (each (map q xs))
     each_pair [] h = goes_pair n []
@@ -92,11 +106,17 @@ module _ (n : ℕ) where
       all_hold [] = tt
       all_hold (y ∷ ys) = (h y, all_hold ys)
 
+      operands_hold : (os : List (Operation Y)) → Each (λ o. Holds o.operand) (map (operation_with p) os)
+      operands_hold [] = tt
+      operands_hold (o ∷ os) = (h o.operand, operands_hold os)
+
       layer : (y : Tree-F Y) → Pair n (tree_step calls (map-Tree Tree (Part Value) (tree_meaning calls) (map-Tree Y Tree p y))) (tree_step calls' (map-Tree Tree (Part Value) (tree_meaning calls') (map-Tree Y Tree p y)))
       layer (Tree-F.Constant place c) = goes_pair n (num (number_of_tree c.tree))
       layer (Tree-F.Local place v) = record { told = λ s d le. goes_told d (value_at v.place s.locals) s s refl refl; grows = λ s. begins s.events }
       layer (Tree-F.Assign place v e) = then_pair n (P e) (Q e) (assigned v.place) (assigned v.place) (h e) (assigned_pair v.place)
-      layer (Tree-F.Binary place o k a b) = then_pair n (both (P a) (P b)) (both (Q a) (Q b)) (operated place o k) (operated place o k) (both_pair (P a) (Q a) (P b) (Q b) (h a) (h b)) (λ xy. given_pair place (binary o k (number_in xy.0) (number_in xy.1)))
+      layer (Tree-F.Chain place k first rest) =
+          then_pair n (P first) (Q first) (chained place k (map (operation_with (tree_meaning calls)) (map (operation_with p) rest))) (chained place k (map (operation_with (tree_meaning calls')) (map (operation_with p) rest))) (h first)
+          (chained_pair place k (tree_meaning calls) (tree_meaning calls') (map (operation_with p) rest) (operands_hold rest))
       layer (Tree-F.Compare place o k a b) =
           let go : Value × Value → Part Value = λ xy s. Goes (num (truth_number (compare o (number_in xy.0) (number_in xy.1)))) s in
           then_pair n (both (P a) (P b)) (both (Q a) (Q b)) go go (both_pair (P a) (Q a) (P b) (Q b) (h a) (h b)) (λ xy. goes_pair n (num (truth_number (compare o (number_in xy.0) (number_in xy.1)))))
@@ -190,18 +210,25 @@ module _ (n : ℕ) where
       blocks : (ys : List Y) → Pair n (SP ys) (SQ ys)
       blocks ys = block_pair (stmt_meaning calls) (stmt_meaning calls') (map p ys) (all_stated ys)
 
+      branched_pair : (bs : List (Branch Y)) (last last' : Part Flow) → Pair n last last' → Pair n (branched calls (map (branch_with (stmt_meaning calls)) (map (branch_with p) bs)) last) (branched calls' (map (branch_with (stmt_meaning calls')) (map (branch_with p) bs)) last')
+      branched_pair [] last last' l = l
+      branched_pair (b ∷ bs) last last' l =
+          let more_p = branched calls (map (branch_with (stmt_meaning calls)) (map (branch_with p) bs)) last in
+          let more_q = branched calls' (map (branch_with (stmt_meaning calls')) (map (branch_with p) bs)) last' in
+          let others = branched_pair bs last last' l in
+          then_pair n (tree_meaning calls b.condition) (tree_meaning calls' b.condition) (λ v s. if is_zero v then more_p s else SP b.body s) (λ v s. if is_zero v then more_q s else SQ b.body s) (tree_pair b.condition)
+          (λ v. record {
+            told = λ s d le. if_told d s (is_zero v) (more_p s) (SP b.body s) (more_q (more d s)) (SQ b.body (more d s)) (others.told s d le) ((blocks b.body).told s d le);
+            grows = λ s. if_grows (is_zero v) s (more_q s) (SQ b.body s) (others.grows s) ((blocks b.body).grows s);
+          })
+
       stmt_layer : (y : Stmt-F Y) → Pair n (stmt_step calls (map-Stmt Stmt (Part Flow) (stmt_meaning calls) (map-Stmt Y Stmt p y))) (stmt_step calls' (map-Stmt Stmt (Part Flow) (stmt_meaning calls') (map-Stmt Y Stmt p y)))
       stmt_layer (Stmt-F.Eval e) = then_pair n (tree_meaning calls e) (tree_meaning calls' e) (λ v s. Goes Next s) (λ v s. Goes Next s) (tree_pair e) (λ v. goes_pair n Next)
       stmt_layer (Stmt-F.Declare v e) =
           then_pair n (λ s. and_then (tree_meaning calls e s) (assigned v.place)) (λ s. and_then (tree_meaning calls' e s) (assigned v.place)) (λ v s. Goes Next s) (λ v s. Goes Next s)
           (then_pair n (tree_meaning calls e) (tree_meaning calls' e) (assigned v.place) (assigned v.place) (tree_pair e) (assigned_pair v.place)) (λ v. goes_pair n Next)
       stmt_layer (Stmt-F.Block stmts) = blocks stmts
-      stmt_layer (Stmt-F.If place e one other) =
-          then_pair n (tree_meaning calls e) (tree_meaning calls' e) (λ v s. if is_zero v then SP other s else SP one s) (λ v s. if is_zero v then SQ other s else SQ one s) (tree_pair e)
-          (λ v. record {
-            told = λ s d le. if_told d s (is_zero v) (SP other s) (SP one s) (SQ other (more d s)) (SQ one (more d s)) ((blocks other).told s d le) ((blocks one).told s d le);
-            grows = λ s. if_grows (is_zero v) s (SQ other s) (SQ one s) ((blocks other).grows s) ((blocks one).grows s);
-          })
+      stmt_layer (Stmt-F.If place branches last) = branched_pair branches (SP last) (SQ last) (blocks last)
       stmt_layer (Stmt-F.While place e body) = while_pair place (tree_meaning calls e) (tree_meaning calls' e) (SP body) (SQ body) (tree_pair e) (blocks body)
       stmt_layer (Stmt-F.Return place None) = goes_pair n (Back nothing)
       stmt_layer (Stmt-F.Return place (Some e)) = then_pair n (tree_meaning calls e) (tree_meaning calls' e) (λ v s. Goes (Back v) s) (λ v s. Goes (Back v) s) (tree_pair e) (λ v. goes_pair n (Back v))

@@ -16,9 +16,11 @@ use Rattle.dc_types.specs.Same as same
 use Rattle.dc_tree.specs.Values.{num, number_in, nothing, number_of_tree, truth_number, is_zero, texts_of}
 use Rattle.dc_tree.specs.Weight.{body_weight}
 use Rattle.dc_tree.specs.declared.tree.Variable.{Variable}
+use Rattle.dc_tree.specs.declared.tree.Operation.{Operation}
 use Rattle.dc_tree.specs.declared.tree.Tree.{Tree}
 use Rattle.dc_tree.specs.declared.tree.Tree.TheOpen.{Tree-F}
 use Rattle.dc_tree.specs.declared.tree.Tree.TheFolds.{fold-Tree}
+use Rattle.dc_tree.specs.declared.stmt.Branch.{Branch}
 use Rattle.dc_tree.specs.declared.stmt.Stmt.{Stmt}
 use Rattle.dc_tree.specs.declared.stmt.Stmt.TheOpen.{Stmt-F}
 use Rattle.dc_tree.specs.declared.stmt.Stmt.TheFolds.{fold-Stmt}
@@ -98,6 +100,11 @@ given place (Err trap) s = Over (Trapped trap place) s.events
 abbrev pub operated : Place → BinOp → Kind → Value × Value → Part Value
 operated place op k xy = given place (binary op k (number_in xy.0) (number_in xy.1))
 
+-- The operations of a chain go on from the value so far. Each one's operand is evaluated before its operator is applied.
+abbrev pub chained : Place → Kind → List (Operation (Part Value)) → Value → Part Value
+chained place k [] x s = Goes x s
+chained place k (o ∷ os) x s = and_then (o.operand s) (λ y s. and_then (operated place o.operator k (x, y) s) (chained place k os))
+
 -- All arguments are evaluated, and then printed as one piece. A line feed ends a line.
 abbrev pub printed : List Ty → Bool → List Value → Part Value
 printed tys line vs s = Goes nothing (happens (Print (texts_of tys vs ++ (if line then 10 ∷ [] else []))) s)
@@ -110,7 +117,7 @@ abbrev pub tree_step : Calls → Tree-F (Part Value) → Part Value
 tree_step calls (Tree-F.Constant place c) s = Goes (num (number_of_tree c.tree)) s
 tree_step calls (Tree-F.Local place v) s = Goes (value_at v.place s.locals) s
 tree_step calls (Tree-F.Assign place v e) s = and_then (e s) (assigned v.place)
-tree_step calls (Tree-F.Binary place op k a b) s = and_then (both a b s) (operated place op k)
+tree_step calls (Tree-F.Chain place k first rest) s = and_then (first s) (chained place k rest)
 tree_step calls (Tree-F.Compare place op k a b) s = and_then (both a b s) (λ xy s. Goes (num (truth_number (compare op (number_in xy.0) (number_in xy.1)))) s)
 tree_step calls (Tree-F.Call place f ty args) s = and_then (each args s) (calls place f)
 tree_step calls (Tree-F.Print place tys args line) s = and_then (each args s) (printed tys line)
@@ -144,11 +151,16 @@ abbrev pub returned : Calls → Option Tree → Part Flow
 returned calls None s = Goes (Back nothing) s
 returned calls (Some e) s = and_then (tree_meaning calls e s) (λ v s. Goes (Back v) s)
 
+-- the first branch whose condition holds, and the last part where none does
+abbrev pub branched : Calls → List (Branch (Part Flow)) → Part Flow → Part Flow
+branched calls [] last s = last s
+branched calls (b ∷ bs) last s = and_then (tree_meaning calls b.condition s) (λ v s. if is_zero v then branched calls bs last s else block b.body s)
+
 abbrev pub stmt_step : Calls → Stmt-F (Part Flow) → Part Flow
 stmt_step calls (Stmt-F.Eval e) s = and_then (tree_meaning calls e s) (λ v s. Goes Next s)
 stmt_step calls (Stmt-F.Declare v e) s = and_then (and_then (tree_meaning calls e s) (assigned v.place)) (λ v s. Goes Next s)
 stmt_step calls (Stmt-F.Block stmts) s = block stmts s
-stmt_step calls (Stmt-F.If place e one other) s = and_then (tree_meaning calls e s) (λ v s. if is_zero v then block other s else block one s)
+stmt_step calls (Stmt-F.If place branches last) s = branched calls branches (block last) s
 stmt_step calls (Stmt-F.While place e body) s = turns s.left place (tree_meaning calls e) (block body) s
 stmt_step calls (Stmt-F.Return place e) s = returned calls e s
 

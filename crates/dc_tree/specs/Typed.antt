@@ -19,10 +19,12 @@ use Rattle.dc_tree.specs.Values.{int, void, number_of_tree}
 use Rattle.dc_tree.specs.Weight.{tree_weight, body_weight}
 use Rattle.dc_tree.specs.Meaning.{body_at}
 use Rattle.dc_tree.specs.declared.tree.Variable.{Variable}
+use Rattle.dc_tree.specs.declared.tree.Operation.{Operation}
 use Rattle.dc_tree.specs.declared.tree.Tree.{Tree}
 use Rattle.dc_tree.specs.declared.tree.Tree.TheOpen.{Tree-F}
 use Rattle.dc_tree.specs.declared.tree.Tree.TheViews.{out-Tree}
 use Rattle.dc_tree.specs.declared.tree.Tree.TheFolds.{fold-Tree}
+use Rattle.dc_tree.specs.declared.stmt.Branch.{Branch}
 use Rattle.dc_tree.specs.declared.stmt.Stmt.{Stmt}
 use Rattle.dc_tree.specs.declared.stmt.Stmt.TheOpen.{Stmt-F}
 use Rattle.dc_tree.specs.declared.stmt.Stmt.TheFolds.{fold-Stmt}
@@ -92,6 +94,11 @@ right_kind binop.Shr k = kind.I64
 right_kind binop.Ushr k = kind.I64
 right_kind _ k = k
 
+-- the operands of a chain on numbers of a kind
+abbrev pub operands_fit : Kind → List (Operation (Option Ty)) → Bool
+operands_fit k [] = true
+operands_fit k (o ∷ os) = is_of (int (right_kind o.operator k)) o.operand && operands_fit k os
+
 abbrev pub typed_as : Bool → Ty → Option Ty
 typed_as b ty = if b then Some ty else None
 
@@ -100,7 +107,7 @@ abbrev pub type_step : List Body → List Variable → Tree-F (Option Ty) → Op
 type_step bodies vars (Tree-F.Constant place c) = typed_as (constant_fits c) c.ty
 type_step bodies vars (Tree-F.Local place v) = typed_as (is_among v vars) v.ty
 type_step bodies vars (Tree-F.Assign place v e) = typed_as (is_among v vars && is_of v.ty e) v.ty
-type_step bodies vars (Tree-F.Binary place op k a b) = typed_as (is_of (int k) a && is_of (int (right_kind op k)) b) (int k)
+type_step bodies vars (Tree-F.Chain place k first rest) = typed_as (is_of (int k) first && operands_fit k rest) (int k)
 type_step bodies vars (Tree-F.Compare place op k a b) = typed_as (is_of (int k) a && is_of (int k) b) (int kind.Bool)
 type_step bodies vars (Tree-F.Call place f ty args) = typed_as (takes (body_at bodies f) ty args) ty
 type_step bodies vars (Tree-F.Print place tys args line) = typed_as (are_of tys args && are_numbers tys) void
@@ -124,11 +131,15 @@ abbrev pub returns : List Body → List Variable → Ty → Option Tree → Bool
 returns bodies vars result None = is_void result
 returns bodies vars result (Some e) = is_number result && is_of result (type_of bodies vars e)
 
+abbrev pub branches_typed : List Body → List Variable → List (Branch Bool) → Bool
+branches_typed bodies vars [] = true
+branches_typed bodies vars (b ∷ bs) = is_condition (type_of bodies vars b.condition) && (all_of b.body && branches_typed bodies vars bs)
+
 abbrev pub stmt_typed_step : List Body → List Variable → Ty → Stmt-F Bool → Bool
 stmt_typed_step bodies vars result (Stmt-F.Eval e) = is_typed (type_of bodies vars e)
 stmt_typed_step bodies vars result (Stmt-F.Declare v e) = is_among v vars && is_of v.ty (type_of bodies vars e)
 stmt_typed_step bodies vars result (Stmt-F.Block stmts) = all_of stmts
-stmt_typed_step bodies vars result (Stmt-F.If place e one other) = is_condition (type_of bodies vars e) && (all_of one && all_of other)
+stmt_typed_step bodies vars result (Stmt-F.If place branches last) = branches_typed bodies vars branches && all_of last
 stmt_typed_step bodies vars result (Stmt-F.While place e body) = is_condition (type_of bodies vars e) && all_of body
 stmt_typed_step bodies vars result (Stmt-F.Return place e) = returns bodies vars result e
 
@@ -146,12 +157,17 @@ always_by _ = false
 abbrev pub always_holds : Tree → Bool
 always_holds e = always_by (out-Tree e)
 
+-- a branch may come to its end
+abbrev pub any_completes : List (Branch Bool) → Bool
+any_completes [] = false
+any_completes (b ∷ bs) = all_of b.body || any_completes bs
+
 -- Whether a statement may come to its end. An `if` without `else` has no statements there, which come to their end.
 abbrev pub completes_step : Stmt-F Bool → Bool
 completes_step (Stmt-F.Eval e) = true
 completes_step (Stmt-F.Declare v e) = true
 completes_step (Stmt-F.Block stmts) = all_of stmts
-completes_step (Stmt-F.If place e one other) = all_of one || all_of other
+completes_step (Stmt-F.If place branches last) = any_completes branches || all_of last
 completes_step (Stmt-F.While place e body) = not (always_holds e)
 completes_step (Stmt-F.Return place e) = false
 

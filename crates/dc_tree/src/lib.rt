@@ -10,7 +10,7 @@ mod weight;
 
 pub use body::{Bodies, Body, Starts};
 pub use laws::ticks_bound;
-pub use stmt::{Stmt, Stmts};
+pub use stmt::{Branch, Stmt, Stmts};
 pub use sums::{Link, Literal, Sign, Sum, SumStmt, SumStmts, Term};
-pub use tree::{Tree, Trees, Variable, Variables};
+pub use tree::{Operation, Tree, Trees, Variable, Variables};
 pub use weight::{TOO_HEAVY, body_weight, tree_weight};

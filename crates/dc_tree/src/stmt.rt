@@ -3,6 +3,13 @@ use crate::{Tree, Variable};
 use dc_types::{Items, Place};
 use sqlite_items::Items as Children;
 
+/// A condition of an `if`, and the statements behind it.
+#[derive(Debug, Drop)]
+pub struct Branch<S> {
+    pub condition: Tree,
+    pub body: Children<S>,
+}
+
 /// A resolved statement (D specification, "Statements").
 #[cycle(stmt)]
 #[derive(Debug, Drop)]
@@ -12,8 +19,9 @@ pub enum Stmt {
     /// The declaration of a variable, and the value that it starts with.
     Declare(Variable, Tree),
     Block(Children<Stmt>),
-    /// `if`, with its place, the condition, and the statement of each branch: none where there is no `else`.
-    If(Place, Tree, Children<Stmt>, Children<Stmt>),
+    /// `if`, with its place, the branches of an `else if` chain, and the statement of the last `else`: none where there is
+    /// no such `else`. The first branch whose condition holds is taken.
+    If(Place, Children<Branch<Stmt>>, Children<Stmt>),
     /// `while`, with its place, at which its turns are, the condition and the statement.
     While(Place, Tree, Children<Stmt>),
     Return(Place, Option<Tree>),

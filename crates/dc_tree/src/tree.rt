@@ -11,6 +11,13 @@ pub struct Variable {
 
 pub type Variables = Items<Variable>;
 
+/// An operator of a chain, and the operand behind it, which is a tree.
+#[derive(Debug, Drop)]
+pub struct Operation<T> {
+    pub operator: BinOp,
+    pub operand: T,
+}
+
 /// A resolved expression (D specification, "Expressions"). The first place in each form is where it begins.
 #[cycle(tree)]
 #[derive(Debug, Drop)]
@@ -21,8 +28,9 @@ pub enum Tree {
     Local(Place, Variable),
     /// `v = e`, whose value is the one that is stored.
     Assign(Place, Variable, Boxed<Tree>),
-    /// An operator on two numbers of the kind. The count of a shift is a `long`.
-    Binary(Place, BinOp, Kind, Boxed<Tree>, Boxed<Tree>),
+    /// Operators on numbers of the kind, from left to right: each on the value so far and on the operand behind it. The
+    /// count of a shift is a `long`.
+    Chain(Place, Kind, Boxed<Tree>, Children<Operation<Tree>>),
     /// A comparison of two numbers of the kind, which is a `bool`.
     Compare(Place, CmpOp, Kind, Boxed<Tree>, Boxed<Tree>),
     /// A call of the function that is declared at the second place, the type of its result, and the arguments.
@@ -45,7 +53,7 @@ impl Tree {
             Tree::Constant(place, _) => place,
             Tree::Local(place, _) => place,
             Tree::Assign(place, _, _) => place,
-            Tree::Binary(place, _, _, _, _) => place,
+            Tree::Chain(place, _, _, _) => place,
             Tree::Compare(place, _, _, _, _) => place,
             Tree::Call(place, _, _, _) => place,
             Tree::Print(place, _, _, _) => place,

@@ -1,8 +1,8 @@
 // How much functions weigh.
 ghost use Rattle.std.specs.Prelude.{◌≡◌, ◌+◌, ◌*◌, ◌≤◌, min, map};
-ghost use Rattle.dc_tree.specs.Weight.{sum, tree_weight, option_weight, stmt_weight, stmts_weight, body_weight};
+ghost use Rattle.dc_tree.specs.Weight.{sum, tree_weight, operation_weight, option_weight, stmt_weight, stmts_weight, branch_weight, body_weight};
 
-use crate::{Body, Stmt, Tree};
+use crate::{Body, Branch, Operation, Stmt, Tree};
 
 /// One more than the most that a function, or an expression with which a run begins, may weigh. It stands for every weight
 /// above that limit.
@@ -27,11 +27,25 @@ pub fn tree_weight(t: &Tree) -> u32
         Tree::Constant(_, _) => 5,
         Tree::Local(_, _) => 5,
         Tree::Assign(_, _, e) => plus(10, tree_weight(e.get())),
-        Tree::Binary(_, _, _, a, b) => plus(5, plus(tree_weight(a.get()), tree_weight(b.get()))),
+        Tree::Chain(_, _, first, rest) => {
+            plus(tree_weight(first.get()), operations_weight(rest.as_slice()))
+        }
         Tree::Compare(_, _, _, a, b) => plus(5, plus(tree_weight(a.get()), tree_weight(b.get()))),
         Tree::Call(_, _, _, args) => plus(5, trees_weight(args.as_slice())),
         Tree::Print(_, _, args, _) => plus(5, trees_weight(args.as_slice())),
     }
+}
+
+#[cycle(tree_weights)]
+fn operations_weight(operations: &[Operation<Tree>]) -> u32
+    ensures value { result ≡ min (sum (map operation_weight operations.now)) 4194305 }
+    ensures bound { result ≤ 4194305 }
+{
+    let mut weight = 0;
+    for o in operations {
+        weight = plus(weight, plus(5, tree_weight(&o.operand)));
+    }
+    weight
 }
 
 #[cycle(tree_weights)]
@@ -56,7 +70,7 @@ fn option_weight(t: &Option<Tree>) -> u32
     }
 }
 
-/// What a statement weighs: 8 for each statement, and its expressions.
+/// What a statement weighs: 8 for each statement, and its expressions. Each branch of an `if` is a statement.
 #[cycle(stmt_weights)]
 fn stmt_weight(t: &Stmt) -> u32
     ensures value { result ≡ min (stmt_weight t.now) 4194305 }
@@ -66,13 +80,28 @@ fn stmt_weight(t: &Stmt) -> u32
         Stmt::Eval(e) => plus(8, tree_weight(e)),
         Stmt::Declare(_, e) => plus(8, tree_weight(e)),
         Stmt::Block(stmts) => plus(8, stmts_weight(stmts.as_slice())),
-        Stmt::If(_, e, one, other) => {
-            let branches = plus(stmts_weight(one.as_slice()), stmts_weight(other.as_slice()));
-            plus(8, plus(tree_weight(e), branches))
+        Stmt::If(_, branches, last) => {
+            plus(
+                branches_weight(branches.as_slice()),
+                stmts_weight(last.as_slice()),
+            )
         }
         Stmt::While(_, e, body) => plus(8, plus(tree_weight(e), stmts_weight(body.as_slice()))),
         Stmt::Return(_, e) => plus(8, option_weight(e)),
     }
+}
+
+#[cycle(stmt_weights)]
+fn branches_weight(branches: &[Branch<Stmt>]) -> u32
+    ensures value { result ≡ min (sum (map branch_weight branches.now)) 4194305 }
+    ensures bound { result ≤ 4194305 }
+{
+    let mut weight = 0;
+    for b in branches {
+        let inside = plus(tree_weight(&b.condition), stmts_weight(b.body.as_slice()));
+        weight = plus(weight, plus(8, inside));
+    }
+    weight
 }
 
 #[cycle(stmt_weights)]

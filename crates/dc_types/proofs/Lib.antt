@@ -1,6 +1,5 @@
 pub mod Integers
 pub mod Values
-pub mod Trees
 pub mod Counting
 pub mod Settling
 pub mod Starting
@@ -10,3 +9,4 @@ pub mod Digits
 pub mod Depths
 pub mod Skipping
 pub mod Reading
+pub mod Ticks

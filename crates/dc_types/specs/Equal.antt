@@ -1,34 +1,70 @@
--- The comparisons of places, constants, arguments and values that are derived are exact.
-use Rattle.std.proofs.Common.{◌≡◌, ◌∙◌, refl, ap, ℕ, List, Bool, ◌&&◌, ◌==◌}
-use Rattle.std.specs.Bool.{Decides}
+-- The comparisons that are derived are exact.
+use Rattle.std.proofs.Common.{rules, ◌≡◌, ◌∙◌, refl, sym, ap, subst, ℕ, List, Bool, true, ◌&&◌, ◌==◌}
+use Rattle.std.specs.Bool.{Decides, beq}
+use Rattle.std.specs.Cmp.{booleans_Decides}
 use Rattle.std.specs.Str.{bytes_eq}
+use Rattle.std.specs.Ordering.{int_eq}
 use Rattle.std.specs.Cmp.Lexicographic.{pointwise}
 use Rattle.std.proofs.lemmas.Bool.Decides.{Decides-eqb, Decides-and, Decides-like}
 use Rattle.std.proofs.lemmas.Slice.Eq.{bytes_eq-Decides, slice_eq-Decides}
-use Rattle.dc_types.specs.declared.place.Place.{Place}
-use Rattle.dc_types.specs.declared.ty.Ty.{Ty}
-use Rattle.dc_types.specs.declared.constant.CTree.{CTree}
-use Rattle.dc_types.specs.declared.constant.Const.{Const}
-use Rattle.dc_types.specs.declared.arg.Arg.TheVariants as args
-use Rattle.dc_types.specs.declared.value.Span.{Span}
-use Rattle.dc_types.specs.declared.value.Spot.{Spot}
+use denote.Enum.Bare.{sameb, same_true}
+use Rattle.dc_types.specs.contracts.event.TrapKind.{the_type as trap_kinds}
+use Rattle.dc_types.specs.contracts.question.Asked.{the_type as askings}
+use Rattle.dc_types.specs.contracts.pattern.IsBy.{the_type as comparings}
+use Rattle.dc_types.specs.declared.event.TrapKind.{TrapKind}
+use Rattle.dc_types.specs.declared.event.TrapKind.TheVariants as trap_kind
+use Rattle.dc_types.specs.declared.event.Trap.{Trap}
+use Rattle.dc_types.specs.declared.event.Event.{Event}
+use Rattle.dc_types.specs.declared.event.Event.TheVariants as events
+use Rattle.dc_types.specs.declared.question.Asked.{Asked}
+use Rattle.dc_types.specs.declared.question.Asked.TheVariants as askeds
+use Rattle.dc_types.specs.declared.pattern.IsBy.{IsBy}
+use Rattle.dc_types.specs.declared.pattern.IsBy.TheVariants as bys
 use Rattle.dc_types.specs.declared.place.Step.{Step}
 use Rattle.dc_types.specs.declared.place.Step.TheVariants as steps
 use Rattle.dc_types.specs.contracts.place.StepPartialEq.TheImpl as step_eq
+use Rattle.dc_types.specs.declared.place.Place.{Place}
+use Rattle.dc_types.specs.declared.constant.Const.{Const}
+use Rattle.dc_types.specs.declared.arg.Arg.{Arg}
+use Rattle.dc_types.specs.declared.arg.Arg.TheVariants as args
+use Rattle.dc_types.specs.declared.arg.Takes.{Takes}
+use Rattle.dc_types.specs.declared.arg.Takes.TheVariants as takings
+use Rattle.dc_types.specs.declared.arg.Param.{Param}
+use Rattle.dc_types.specs.declared.pattern.IsForm.{IsForm}
+use Rattle.dc_types.specs.declared.pattern.Pattern.{Pattern}
 use Rattle.dc_types.specs.contracts.place.PlacePartialEq.TheImpl as place_eq
 use Rattle.dc_types.specs.contracts.constant.ConstPartialEq.TheImpl as const_eq
 use Rattle.dc_types.specs.contracts.arg.ArgPartialEq.TheImpl as arg_eq
+use Rattle.dc_types.specs.contracts.arg.TakesPartialEq.TheImpl as takes_eq
+use Rattle.dc_types.specs.contracts.arg.ParamPartialEq.TheImpl as param_eq
+use Rattle.dc_types.specs.contracts.arg.BindingPartialEq.TheImpl as binding_eq
+use Rattle.dc_types.specs.contracts.candidate.CallParamPartialEq.TheImpl as call_param_eq
+use Rattle.dc_types.specs.contracts.candidate.CandidatePartialEq.TheImpl as candidate_eq
+use Rattle.dc_types.specs.contracts.layout.FieldPartialEq.TheImpl as field_eq
+use Rattle.dc_types.specs.contracts.pattern.IsFormPartialEq.TheImpl as is_form_eq
+use Rattle.dc_types.specs.contracts.question.QuestionPartialEq.TheImpl as question_eq
+use Rattle.dc_types.specs.contracts.refusal.RefusalPartialEq.TheImpl as refusal_eq
+use Rattle.dc_types.specs.contracts.event.TrapPartialEq.TheImpl as trap_eq
+use Rattle.dc_types.specs.contracts.event.EventPartialEq.TheImpl as event_eq
+use Rattle.dc_types.specs.contracts.range.RangePartialEq.TheImpl as range_eq
 use Rattle.dc_types.specs.contracts.value.SpanPartialEq.TheImpl as span_eq
 use Rattle.dc_types.specs.contracts.value.SpotPartialEq.TheImpl as spot_eq
 use Rattle.dc_types.specs.Same as same
-use Rattle.dc_types.specs.Exact.{ty-Decides, tree-Decides}
+use Rattle.dc_types.specs.Exact.{both-Decides, three-Decides, kind-Decides, place-Decides, ty-Decides, tree-Decides, pattern-Decides, span-Decides, range-Decides, numbers-Decides}
 
 -- the test answers true exactly for equal values
 abbrev pub IsExact : {A : Type 0} → (A → A → Bool) → Type 0
 IsExact {A} test = (a b : A) → Decides (test a b) (a ≡ b)
 
+-- the test of two lists by that of their items is exact where that one is
+of_lists : {A : Type 0} (test : A → A → Bool) → IsExact test → IsExact (pointwise test)
+of_lists test exact a b = slice_eq-Decides exact a b (pointwise test a b) refl
+
 abbrev step_test : Step → Step → Bool
 step_test = (step_eq.ghosts).eq
+
+abbrev place_test : Place → Place → Bool
+place_test = (place_eq.ghosts).eq
 
 step-Decides : (a b : Step) → Decides (step_test a b) (a ≡ b)
 step-Decides (steps.At a) (steps.At b) = Decides-like (a == b) (λ e. ap steps.At e) (λ e. cc) (Decides-eqb a b)
@@ -41,34 +77,17 @@ step-Decides (steps.With a) (steps.At b) = (λ h. cc, λ e. cc)
 step-Decides (steps.With a) (steps.Round b) = (λ h. cc, λ e. cc)
 step-Decides (steps.With a) (steps.With b) = Decides-like (bytes_eq a b) (λ e. ap steps.With e) (λ e. cc) (bytes_eq-Decides a b)
 
-place_parts : (a b : Place) → a.module ≡ b.module → a.steps ≡ b.steps → a ≡ b
-place_parts a b m s =
-    let with_module : List ℕ → Place = λ x. record { «module» = x; steps = a.steps } in
-    let with_steps : List Step → Place = λ x. record { «module» = b.module; steps = x } in
-    ap with_module m ∙ ap with_steps s
-
 pub places : IsExact ((place_eq.ghosts).eq)
 places a b =
-    Decides-like (bytes_eq a.module b.module && pointwise step_test a.steps b.steps) (λ h. place_parts a b h.0 h.1) (λ e. (ap (λ p. p.module) e, ap (λ p. p.steps) e))
-    (Decides-and (bytes_eq a.module b.module) (pointwise step_test a.steps b.steps) (bytes_eq-Decides a.module b.module) (slice_eq-Decides step-Decides a.steps b.steps (pointwise step_test a.steps b.steps) refl))
-
-both_parts : (a b : Const) → a.ty ≡ b.ty → a.tree ≡ b.tree → a ≡ b
-both_parts a b t e =
-    let with_ty : Ty → Const = λ x. record { ty = x; tree = a.tree } in
-    let with_tree : CTree → Const = λ x. record { ty = b.ty; tree = x } in
-    ap with_ty t ∙ ap with_tree e
-
-const-Decides : (a b : Const) → Decides (same.ty a.ty b.ty && same.tree a.tree b.tree) (a ≡ b)
-const-Decides a b =
-    Decides-like (same.ty a.ty b.ty && same.tree a.tree b.tree) (λ h. both_parts a b h.0 h.1) (λ e. (ap (λ c. c.ty) e, ap (λ c. c.tree) e))
-    (Decides-and (same.ty a.ty b.ty) (same.tree a.tree b.tree) (ty-Decides a.ty b.ty) (tree-Decides a.tree b.tree))
+    both-Decides (λ m s. record { «module» = m; steps = s }) (λ p. p.module) (λ p. p.steps) (λ p. refl) a b (bytes_eq a.module b.module) (pointwise step_test a.steps b.steps)
+    (bytes_eq-Decides a.module b.module) (of_lists step_test step-Decides a.steps b.steps)
 
 pub consts : IsExact ((const_eq.ghosts).eq)
-consts a b = const-Decides a b
+consts a b = both-Decides (λ t c. record { ty = t; tree = c }) (λ c. c.ty) (λ c. c.tree) (λ c. refl) a b (same.ty a.ty b.ty) (same.tree a.tree b.tree) (ty-Decides a.ty b.ty) (tree-Decides a.tree b.tree)
 
 pub args_ : IsExact ((arg_eq.ghosts).eq)
 args_ (args.OfType a) (args.OfType b) = Decides-like (same.ty a b) (λ e. ap args.OfType e) (λ e. cc) (ty-Decides a b)
-args_ (args.OfValue a) (args.OfValue b) = Decides-like (same.ty a.ty b.ty && same.tree a.tree b.tree) (λ e. ap args.OfValue e) (λ e. cc) (const-Decides a b)
+args_ (args.OfValue a) (args.OfValue b) = Decides-like ((const_eq.ghosts).eq a b) (λ e. ap args.OfValue e) (λ e. cc) (consts a b)
 args_ (args.OfSymbol a) (args.OfSymbol b) = Decides-like ((place_eq.ghosts).eq a b) (λ e. ap args.OfSymbol e) (λ e. cc) (places a b)
 args_ (args.OfType a) (args.OfValue b) = (λ h. cc, λ e. cc)
 args_ (args.OfType a) (args.OfSymbol b) = (λ h. cc, λ e. cc)
@@ -77,33 +96,108 @@ args_ (args.OfValue a) (args.OfSymbol b) = (λ h. cc, λ e. cc)
 args_ (args.OfSymbol a) (args.OfType b) = (λ h. cc, λ e. cc)
 args_ (args.OfSymbol a) (args.OfValue b) = (λ h. cc, λ e. cc)
 
-numbers-Decides : (a b : List ℕ) → Decides (pointwise (λ x y. x == y) a b) (a ≡ b)
-numbers-Decides a b = slice_eq-Decides (λ x y. Decides-eqb x y) a b (pointwise (λ x y. x == y) a b) refl
+pub takes : IsExact ((takes_eq.ghosts).eq)
+takes takings.AType takings.AType = (λ h. refl, λ e. refl)
+takes (takings.OneValue a) (takings.OneValue b) = Decides-like (same.ty a b) (λ e. ap takings.OneValue e) (λ e. cc) (ty-Decides a b)
+takes takings.AnAlias takings.AnAlias = (λ h. refl, λ e. refl)
+takes takings.AType (takings.OneValue b) = (λ h. cc, λ e. cc)
+takes takings.AType takings.AnAlias = (λ h. cc, λ e. cc)
+takes (takings.OneValue a) takings.AType = (λ h. cc, λ e. cc)
+takes (takings.OneValue a) takings.AnAlias = (λ h. cc, λ e. cc)
+takes takings.AnAlias takings.AType = (λ h. cc, λ e. cc)
+takes takings.AnAlias (takings.OneValue b) = (λ h. cc, λ e. cc)
 
-spot_parts : (a b : Spot) → a.block ≡ b.block → a.path ≡ b.path → a ≡ b
-spot_parts a b t e =
-    let with_block : ℕ → Spot = λ x. record { block = x; path = a.path } in
-    let with_path : List ℕ → Spot = λ x. record { block = b.block; path = x } in
-    ap with_block t ∙ ap with_path e
+pub params : IsExact ((param_eq.ghosts).eq)
+params a b = both-Decides (λ n t. record { name = n; takes = t }) (λ p. p.name) (λ p. p.takes) (λ p. refl) a b (bytes_eq a.name b.name) ((takes_eq.ghosts).eq a.takes b.takes) (bytes_eq-Decides a.name b.name) (takes a.takes b.takes)
+
+pub bindings : IsExact ((binding_eq.ghosts).eq)
+bindings a b = both-Decides (λ n g. record { name = n; arg = g }) (λ p. p.name) (λ p. p.arg) (λ p. refl) a b (bytes_eq a.name b.name) ((arg_eq.ghosts).eq a.arg b.arg) (bytes_eq-Decides a.name b.name) (args_ a.arg b.arg)
+
+pub call_params : IsExact ((call_param_eq.ghosts).eq)
+call_params a b = both-Decides (λ t r. record { ty = t; by_ref = r }) (λ p. p.ty) (λ p. p.by_ref) (λ p. refl) a b (same.ty a.ty b.ty) (beq a.by_ref b.by_ref) (ty-Decides a.ty b.ty) (booleans_Decides a.by_ref b.by_ref)
+
+pub candidates : IsExact ((candidate_eq.ghosts).eq)
+candidates a b =
+    three-Decides (λ p q r. record { params = p; plain = q; above = r }) (λ c. c.params) (λ c. c.plain) (λ c. c.above) (λ c. refl) a b
+    (pointwise ((call_param_eq.ghosts).eq) a.params b.params) (beq a.plain b.plain) (pointwise beq a.above b.above)
+    (of_lists ((call_param_eq.ghosts).eq) call_params a.params b.params) (booleans_Decides a.plain b.plain) (of_lists beq booleans_Decides a.above b.above)
+
+pub fields : IsExact ((field_eq.ghosts).eq)
+fields a b =
+    three-Decides (λ n t s. record { name = n; ty = t; start = s }) (λ f. f.name) (λ f. f.ty) (λ f. f.start) (λ f. refl) a b
+    (bytes_eq a.name b.name) (same.ty a.ty b.ty) ((const_eq.ghosts).eq a.start b.start) (bytes_eq-Decides a.name b.name) (ty-Decides a.ty b.ty) (consts a.start b.start)
+
+-- a comparison of variants without contents
+bare_asked : (a : Asked) → sameb askings a a ≡ true
+bare_asked askeds.Symbol = refl
+bare_asked askeds.Layout = refl
+bare_asked askeds.Signature = refl
+bare_asked askeds.BodyOf = refl
+bare_asked askeds.Eval = refl
+bare_asked askeds.Settle = refl
+
+asked-Decides : (a b : Asked) → Decides (sameb askings a b) (a ≡ b)
+asked-Decides a b = (same_true askings (search rules) a b, λ e. subst (λ x. sameb askings a x ≡ true) e (bare_asked a))
+
+bare_by : (a : IsBy) → sameb comparings a a ≡ true
+bare_by bys.Alone = refl
+bare_by bys.Same = refl
+bare_by bys.Into = refl
+bare_by bys.AStruct = refl
+
+by-Decides : (a b : IsBy) → Decides (sameb comparings a b) (a ≡ b)
+by-Decides a b = (same_true comparings (search rules) a b, λ e. subst (λ x. sameb comparings a x ≡ true) e (bare_by a))
+
+bare_trap : (a : TrapKind) → sameb trap_kinds a a ≡ true
+bare_trap trap_kind.Divide = refl
+bare_trap trap_kind.Shift = refl
+bare_trap trap_kind.Bounds = refl
+bare_trap trap_kind.Length = refl
+bare_trap trap_kind.Overlap = refl
+bare_trap trap_kind.Assert = refl
+bare_trap trap_kind.Heap = refl
+bare_trap trap_kind.Depth = refl
+
+trap_kind-Decides : (a b : TrapKind) → Decides (sameb trap_kinds a b) (a ≡ b)
+trap_kind-Decides a b = (same_true trap_kinds (search rules) a b, λ e. subst (λ x. sameb trap_kinds a x ≡ true) e (bare_trap a))
+
+pub questions : IsExact ((question_eq.ghosts).eq)
+questions a b = both-Decides (λ p q. record { place = p; asked = q }) (λ q. q.place) (λ q. q.asked) (λ q. refl) a b (place_test a.place b.place) (sameb askings a.asked b.asked) (places a.place b.place) (asked-Decides a.asked b.asked)
+
+pub is_forms : IsExact ((is_form_eq.ghosts).eq)
+is_forms a b =
+    let rest_of : IsForm → IsBy × (Pattern × List Param) = λ f. (f.by, (f.right, f.params)) in
+    let same_rest = sameb comparings a.by b.by && (same.pattern a.right b.right && pointwise ((param_eq.ghosts).eq) a.params b.params) in
+    both-Decides (λ l r. record { left = l; by = r.0; right = r.1.0; params = r.1.1 }) (λ f. f.left) rest_of (λ f. refl) a b (same.ty a.left b.left) same_rest (ty-Decides a.left b.left)
+    (three-Decides (λ x y z. (x, (y, z))) (λ r. r.0) (λ r. r.1.0) (λ r. r.1.1) (λ r. refl) (rest_of a) (rest_of b) (sameb comparings a.by b.by) (same.pattern a.right b.right) (pointwise ((param_eq.ghosts).eq) a.params b.params)
+    (by-Decides a.by b.by) (pattern-Decides a.right b.right) (of_lists ((param_eq.ghosts).eq) params a.params b.params))
+
+pub refusals : IsExact ((refusal_eq.ghosts).eq)
+refusals a b =
+    three-Decides (λ r p d. record { rule = r; place = p; detail = d }) (λ f. f.rule) (λ f. f.place) (λ f. f.detail) (λ f. refl) a b
+    (a.rule == b.rule) (place_test a.place b.place) (bytes_eq a.detail b.detail) (Decides-eqb a.rule b.rule) (places a.place b.place) (bytes_eq-Decides a.detail b.detail)
+
+pub traps : IsExact ((trap_eq.ghosts).eq)
+traps a b = both-Decides (λ k p. record { kind = k; place = p }) (λ t. t.kind) (λ t. t.place) (λ t. refl) a b (sameb trap_kinds a.kind b.kind) (place_test a.place b.place) (trap_kind-Decides a.kind b.kind) (places a.place b.place)
+
+pub events_ : IsExact ((event_eq.ghosts).eq)
+events_ (events.Enter a) (events.Enter b) = Decides-like (place_test a b) (λ e. ap events.Enter e) (λ e. cc) (places a b)
+events_ (events.Turn a) (events.Turn b) = Decides-like (place_test a b) (λ e. ap events.Turn e) (λ e. cc) (places a b)
+events_ (events.Print a) (events.Print b) = Decides-like (bytes_eq a b) (λ e. ap events.Print e) (λ e. cc) (bytes_eq-Decides a b)
+events_ (events.Enter a) (events.Turn b) = (λ h. cc, λ e. cc)
+events_ (events.Enter a) (events.Print b) = (λ h. cc, λ e. cc)
+events_ (events.Turn a) (events.Enter b) = (λ h. cc, λ e. cc)
+events_ (events.Turn a) (events.Print b) = (λ h. cc, λ e. cc)
+events_ (events.Print a) (events.Enter b) = (λ h. cc, λ e. cc)
+events_ (events.Print a) (events.Turn b) = (λ h. cc, λ e. cc)
+
+pub ranges : IsExact ((range_eq.ghosts).eq)
+ranges a b = range-Decides a b
 
 pub spots : IsExact ((spot_eq.ghosts).eq)
 spots a b =
-    Decides-like (a.block == b.block && pointwise (λ x y. x == y) a.path b.path) (λ h. spot_parts a b h.0 h.1) (λ e. (ap (λ c. c.block) e, ap (λ c. c.path) e))
-    (Decides-and (a.block == b.block) (pointwise (λ x y. x == y) a.path b.path) (Decides-eqb a.block b.block) (numbers-Decides a.path b.path))
-
-span_parts : (a b : Span) → (a.block ≡ b.block) × ((a.path ≡ b.path) × ((a.start ≡ b.start) × (a.length ≡ b.length))) → a ≡ b
-span_parts a b h =
-    let block : ℕ → Span = λ x. record { block = x; path = a.path; start = a.start; length = a.length } in
-    let path : List ℕ → Span = λ x. record { block = b.block; path = x; start = a.start; length = a.length } in
-    let start : ℕ → Span = λ x. record { block = b.block; path = b.path; start = x; length = a.length } in
-    let len : ℕ → Span = λ x. record { block = b.block; path = b.path; start = b.start; length = x } in
-    ap block h.0 ∙ ap path h.1.0 ∙ ap start h.1.1.0 ∙ ap len h.1.1.1
+    both-Decides (λ k p. record { block = k; path = p }) (λ s. s.block) (λ s. s.path) (λ s. refl) a b
+    (a.block == b.block) (pointwise (λ x y. x == y) a.path b.path) (Decides-eqb a.block b.block) (numbers-Decides a.path b.path)
 
 pub spans : IsExact ((span_eq.ghosts).eq)
-spans a b =
-    let same_block = a.block == b.block in let same_path = pointwise (λ x y. x == y) a.path b.path in let same_start = a.start == b.start in let same_len = a.length == b.length in
-    Decides-like (same_block && (same_path && (same_start && same_len)))
-    (λ h. span_parts a b h)
-    (λ e. (ap (λ c. c.block) e, (ap (λ c. c.path) e, (ap (λ c. c.start) e, ap (λ c. c.length) e))))
-    (Decides-and same_block (same_path && (same_start && same_len)) (Decides-eqb a.block b.block)
-    (Decides-and same_path (same_start && same_len) (numbers-Decides a.path b.path) (Decides-and same_start same_len (Decides-eqb a.start b.start) (Decides-eqb a.length b.length))))
+spans a b = span-Decides a b

@@ -43,6 +43,38 @@ pub struct Binding {
 pub type Bindings = Items<Binding>;
 
 /// A copy that is equal.
+pub fn copy_takes(alloc: Global, takes: &Takes) -> Result<Takes, AllocError>
+    ensures { IfOk result (λ copy. copy ≡ takes.now) }
+{
+    match takes {
+        Takes::AType => Ok(Takes::AType),
+        Takes::OneValue(ty) => Ok(Takes::OneValue(copy_ty(alloc, ty)?)),
+        Takes::AnAlias => Ok(Takes::AnAlias),
+    }
+}
+
+/// A copy that is equal.
+pub fn copy_param(alloc: Global, param: &Param) -> Result<Param, AllocError>
+    ensures { IfOk result (λ copy. copy ≡ param.now) }
+{
+    Ok(Param {
+        name: Text::copy_of(alloc, param.name.as_slice())?,
+        takes: copy_takes(alloc, &param.takes)?,
+    })
+}
+
+/// A copy that is equal.
+pub fn copy_params(alloc: Global, params: &Params) -> Result<Params, AllocError>
+    ensures { IfOk result (λ copy. copy ≡ params.now) }
+{
+    let mut copy = Items::new(alloc);
+    for param in params.as_slice() {
+        copy.push(copy_param(alloc, param)?)?;
+    }
+    Ok(copy)
+}
+
+/// A copy that is equal.
 pub fn copy_arg(alloc: Global, arg: &Arg) -> Result<Arg, AllocError>
     ensures { IfOk result (λ copy. copy ≡ arg.now) }
 {
@@ -60,6 +92,27 @@ pub fn copy_args(alloc: Global, args: &Args) -> Result<Args, AllocError>
     let mut copy = Items::new(alloc);
     for arg in args.as_slice() {
         copy.push(copy_arg(alloc, arg)?)?;
+    }
+    Ok(copy)
+}
+
+/// A copy that is equal.
+pub fn copy_binding(alloc: Global, binding: &Binding) -> Result<Binding, AllocError>
+    ensures { IfOk result (λ copy. copy ≡ binding.now) }
+{
+    Ok(Binding {
+        name: Text::copy_of(alloc, binding.name.as_slice())?,
+        arg: copy_arg(alloc, &binding.arg)?,
+    })
+}
+
+/// A copy that is equal.
+pub fn copy_bindings(alloc: Global, bindings: &Bindings) -> Result<Bindings, AllocError>
+    ensures { IfOk result (λ copy. copy ≡ bindings.now) }
+{
+    let mut copy = Items::new(alloc);
+    for binding in bindings.as_slice() {
+        copy.push(copy_binding(alloc, binding)?)?;
     }
     Ok(copy)
 }

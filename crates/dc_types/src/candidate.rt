@@ -1,5 +1,8 @@
 // Candidates of a call.
-use crate::{Items, Ty};
+ghost use Rattle.std.specs.Prelude.{◌≡◌, IfOk};
+
+use crate::{Items, Ty, copy_ty};
+use std::alloc::{AllocError, Global};
 
 /// A parameter of a candidate.
 #[derive(Debug, Drop, PartialEq, Eq)]
@@ -23,3 +26,48 @@ pub struct Candidate {
 pub type OverloadSet = Items<Candidate>;
 
 pub type Candidates = Items<OverloadSet>;
+
+/// A copy that is equal.
+pub fn copy_call_param(alloc: Global, param: &CallParam) -> Result<CallParam, AllocError>
+    ensures { IfOk result (λ copy. copy ≡ param.now) }
+{
+    Ok(CallParam {
+        ty: copy_ty(alloc, &param.ty)?,
+        by_ref: param.by_ref,
+    })
+}
+
+/// A copy that is equal.
+pub fn copy_call_params(
+    alloc: Global,
+    params: &Items<CallParam>,
+) -> Result<Items<CallParam>, AllocError>
+    ensures { IfOk result (λ copy. copy ≡ params.now) }
+{
+    let mut copy = Items::new(alloc);
+    for param in params.as_slice() {
+        copy.push(copy_call_param(alloc, param)?)?;
+    }
+    Ok(copy)
+}
+
+fn copy_above(alloc: Global, above: &Items<bool>) -> Result<Items<bool>, AllocError>
+    ensures { IfOk result (λ copy. copy ≡ above.now) }
+{
+    let mut copy = Items::new(alloc);
+    for is_above in above.as_slice() {
+        copy.push(*is_above)?;
+    }
+    Ok(copy)
+}
+
+/// A copy that is equal.
+pub fn copy_candidate(alloc: Global, candidate: &Candidate) -> Result<Candidate, AllocError>
+    ensures { IfOk result (λ copy. copy ≡ candidate.now) }
+{
+    Ok(Candidate {
+        params: copy_call_params(alloc, &candidate.params)?,
+        plain: candidate.plain,
+        above: copy_above(alloc, &candidate.above)?,
+    })
+}

@@ -1,5 +1,5 @@
 // Constants: values that are known when a program is compiled.
-ghost use Rattle.std.specs.Prelude.{◌≡◌, IfOk};
+ghost use Rattle.std.specs.Prelude.{◌≡◌, IfOk, map};
 ghost use Rattle.dc_types.specs.Same as same;
 
 use crate::{Ty, copy_ty};
@@ -21,26 +21,31 @@ pub struct Const {
 }
 
 /// Whether the two trees are equal.
+#[cycle(same_tree)]
 pub fn same_tree(a: &CTree, b: &CTree) -> bool
     ensures { result ≡ same.tree a.now b.now }
 {
     match (a, b) {
         (CTree::Num(a), CTree::Num(b)) => *a == *b,
-        (CTree::List(a), CTree::List(b)) => {
-            let left = a.as_slice();
-            let right = b.as_slice();
-            if left.len() != right.len() {
-                return false;
-            }
-            for i in 0..left.len() {
-                if !same_tree(&left[i], &right[i]) {
-                    return false;
-                }
-            }
-            true
-        }
+        (CTree::List(a), CTree::List(b)) => same_trees(a.as_slice(), b.as_slice()),
         _ => false,
     }
+}
+
+/// Whether the two lists are equal.
+#[cycle(same_tree)]
+fn same_trees(a: &[CTree], b: &[CTree]) -> bool
+    ensures { result ≡ same.all (map same.tree a.now) b.now }
+{
+    if a.len() != b.len() {
+        return false;
+    }
+    for i in 0..a.len() {
+        if !same_tree(&a[i], &b[i]) {
+            return false;
+        }
+    }
+    true
 }
 
 impl PartialEq for CTree {

@@ -1,5 +1,8 @@
 // What happens in a run, and what ends it.
-use crate::{Items, Place, Places, Text};
+ghost use Rattle.std.specs.Prelude.{◌≡◌, IfOk};
+
+use crate::{Items, Place, Places, Text, copy_place};
+use std::alloc::{AllocError, Global};
 
 /// What stops a program at an operation that has no result.
 #[derive(Clone, Copy, Debug, PartialEq, Eq, PartialOrd, Ord)]
@@ -15,14 +18,24 @@ pub enum TrapKind {
 }
 
 /// A trap, at the operation that met it.
-#[derive(Debug, Drop)]
+#[derive(Debug, Drop, PartialEq, Eq)]
 pub struct Trap {
     pub kind: TrapKind,
     pub place: Place,
 }
 
+/// A copy that is equal.
+pub fn copy_trap(alloc: Global, trap: &Trap) -> Result<Trap, AllocError>
+    ensures { IfOk result (λ copy. copy ≡ trap.now) }
+{
+    Ok(Trap {
+        kind: trap.kind,
+        place: copy_place(alloc, &trap.place)?,
+    })
+}
+
 /// One thing that a run does.
-#[derive(Debug, Drop)]
+#[derive(Debug, Drop, PartialEq, Eq)]
 pub enum Event {
     /// A function is entered. It takes one tick.
     Enter(Place),
@@ -30,6 +43,17 @@ pub enum Event {
     Turn(Place),
     /// Bytes are printed.
     Print(Text),
+}
+
+/// A copy that is equal.
+pub fn copy_event(alloc: Global, event: &Event) -> Result<Event, AllocError>
+    ensures { IfOk result (λ copy. copy ≡ event.now) }
+{
+    match event {
+        Event::Enter(place) => Ok(Event::Enter(copy_place(alloc, place)?)),
+        Event::Turn(place) => Ok(Event::Turn(copy_place(alloc, place)?)),
+        Event::Print(text) => Ok(Event::Print(Text::copy_of(alloc, text.as_slice())?)),
+    }
 }
 
 /// How far a run may go.
@@ -46,14 +70,14 @@ pub struct Limits {
 }
 
 /// How often a function was called.
-#[derive(Debug, Drop)]
+#[derive(Debug, Drop, PartialEq, Eq)]
 pub struct CallCount {
     pub place: Place,
     pub number: u64,
 }
 
 /// What a probe has been told so far.
-#[derive(Debug, Drop)]
+#[derive(Debug, Drop, PartialEq, Eq)]
 pub enum ProbeState {
     /// The functions that were entered and the loops that were turned, each once.
     Covered { entered: Places, turned: Places },

@@ -2,7 +2,7 @@
 ghost use Rattle.std.specs.Prelude.{◌≡◌, ◌≤◌, [], IfOk, unwrap_or, is_some};
 ghost use Rattle.dc_types.specs.Cells as cells;
 
-use crate::{Const, Items, Place, Places, Text, Ty, copy_place};
+use crate::{Const, Items, Place, Places, Text, Ty, copy_const, copy_place, copy_ty};
 use std::alloc::{AllocError, Global};
 use std::collections::{BTreeMap, BTreeSet};
 use std::marker::Model;
@@ -16,6 +16,28 @@ pub struct Field {
 }
 
 pub type Fields = Items<Field>;
+
+/// A copy that is equal.
+pub fn copy_field(alloc: Global, field: &Field) -> Result<Field, AllocError>
+    ensures { IfOk result (λ copy. copy ≡ field.now) }
+{
+    Ok(Field {
+        name: Text::copy_of(alloc, field.name.as_slice())?,
+        ty: copy_ty(alloc, &field.ty)?,
+        start: copy_const(alloc, &field.start)?,
+    })
+}
+
+/// A copy that is equal.
+pub fn copy_fields(alloc: Global, fields: &Fields) -> Result<Fields, AllocError>
+    ensures { IfOk result (λ copy. copy ≡ fields.now) }
+{
+    let mut copy = Items::new(alloc);
+    for field in fields.as_slice() {
+        copy.push(copy_field(alloc, field)?)?;
+    }
+    Ok(copy)
+}
 
 /// Structs with their fields, and enums with their first members, by their places.
 #[derive(Debug, Drop)]
@@ -274,8 +296,8 @@ impl LayoutDraft {
     }
 }
 
-/// The cells of a type: a number, `void` or a null pointer has one, a slice three, a fixed array those of its elements,
-/// an enum those of its base and a struct those of its fields; each at least one. Every number above 1,048,576 is
+/// The cells of a type: a number or `void` has one; a slice, a `string` and the types of `null` and `[]` have three; a
+/// fixed array has those of its elements, an enum those of its base and a struct those of its fields; each at least one. Every number above 1,048,576 is
 /// answered as 1,048,577, and so is a type that is or holds by value a struct which holds itself by value, or one that
 /// isn't among the layouts. It takes no memory.
 pub fn cells(ty: &Ty, layouts: &Layouts) -> u64

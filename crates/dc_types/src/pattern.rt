@@ -2,7 +2,7 @@
 ghost use Rattle.std.specs.Prelude.{◌≡◌, IfOk};
 ghost use Rattle.dc_types.specs.Same as same;
 
-use crate::{Items, Params, Ty, copy_ty, same_ty};
+use crate::{Items, Params, Ty, copy_params, copy_ty, same_ty};
 use sqlite_items::Boxed;
 use std::alloc::{AllocError, Global};
 
@@ -42,7 +42,7 @@ pub enum IsBy {
 }
 
 /// An `is` expression (D specification, "Expressions", "Is Expression").
-#[derive(Debug, Drop)]
+#[derive(Debug, Drop, PartialEq, Eq)]
 pub struct IsForm {
     pub left: Ty,
     pub by: IsBy,
@@ -102,4 +102,16 @@ pub fn copy_pattern(alloc: Global, pattern: &Pattern) -> Result<Pattern, AllocEr
         Pattern::Just(ty) => Ok(Pattern::Just(copy_ty(alloc, ty)?)),
         Pattern::Other => Ok(Pattern::Other),
     }
+}
+
+/// A copy that is equal.
+pub fn copy_is_form(alloc: Global, form: &IsForm) -> Result<IsForm, AllocError>
+    ensures { IfOk result (λ copy. copy ≡ form.now) }
+{
+    Ok(IsForm {
+        left: copy_ty(alloc, &form.left)?,
+        by: form.by,
+        right: copy_pattern(alloc, &form.right)?,
+        params: copy_params(alloc, &form.params)?,
+    })
 }

@@ -1,15 +1,28 @@
 // Why a program is refused.
-use crate::{Place, Text};
-use std::alloc::{AllocError, AllocFailed};
+ghost use Rattle.std.specs.Prelude.{◌≡◌, IfOk};
+
+use crate::{Place, Text, copy_place};
+use std::alloc::{AllocError, AllocFailed, Global};
 
 /// A rule that a program breaks, and where.
-#[derive(Debug, Drop)]
+#[derive(Debug, Drop, PartialEq, Eq)]
 pub struct Refusal {
     /// The number of the rule, from 1 to 25.
     pub rule: u8,
     pub place: Place,
     /// The name that the rule speaks of, or nothing where it speaks of none.
     pub detail: Text,
+}
+
+/// A copy that is equal.
+pub fn copy_refusal(alloc: Global, refusal: &Refusal) -> Result<Refusal, AllocError>
+    ensures { IfOk result (λ copy. copy ≡ refusal.now) }
+{
+    Ok(Refusal {
+        rule: refusal.rule,
+        place: copy_place(alloc, &refusal.place)?,
+        detail: Text::copy_of(alloc, refusal.detail.as_slice())?,
+    })
 }
 
 /// Why a text has no tokens, no tree or no program.

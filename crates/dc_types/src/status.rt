@@ -4,10 +4,21 @@ use std::alloc::{AllocError, AllocFailed};
 /// How a command ended. The program's exit status is a number of its own for each.
 #[derive(Clone, Copy, Debug, PartialEq, Eq)]
 pub enum Status {
+    /// The command did all that it was to do.
     Done,
+    /// The words are no command.
     Usage,
+    /// The program breaks a rule.
     Refused,
+    /// The program met a trap.
+    Trapped,
+    /// The program would have taken more ticks than it may.
+    Bound,
+    /// `main` gave a number other than 0.
+    EndedWith,
+    /// A file could not be read.
     ReadFault,
+    /// Something could not be written.
     WriteFault,
     NoMemory,
 }

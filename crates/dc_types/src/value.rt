@@ -1,5 +1,5 @@
 // Values as they are while an evaluation goes on.
-ghost use Rattle.std.specs.Prelude.{◌≡◌, IfOk};
+ghost use Rattle.std.specs.Prelude.{◌≡◌, IfOk, map};
 ghost use Rattle.dc_types.specs.Same as same;
 
 use crate::Items;
@@ -31,6 +31,55 @@ pub type Values = Items<Value>;
 pub struct Spot {
     pub block: u32,
     pub path: Items<u64>,
+}
+
+/// Whether the two values are equal.
+#[cycle(same_value)]
+pub fn same_value(a: &Value, b: &Value) -> bool
+    ensures { result ≡ same.value a.now b.now }
+{
+    match (a, b) {
+        (Value::Num(a), Value::Num(b)) => *a == *b,
+        (Value::SliceOf(a), Value::SliceOf(b)) => *a == *b,
+        (Value::List(a), Value::List(b)) => same_values(a.as_slice(), b.as_slice()),
+        _ => false,
+    }
+}
+
+/// Whether the two lists are equal.
+#[cycle(same_value)]
+fn same_values(a: &[Value], b: &[Value]) -> bool
+    ensures { result ≡ same.all (map same.value a.now) b.now }
+{
+    if a.len() != b.len() {
+        return false;
+    }
+    for i in 0..a.len() {
+        if !same_value(&a[i], &b[i]) {
+            return false;
+        }
+    }
+    true
+}
+
+impl PartialEq for Value {
+    ghost use Rattle.dc_types.specs.Same as same;
+    ghost use Rattle.dc_types.specs.Exact.{value_laws};
+    ghost use Rattle.std.specs.Cmp.{partial_equiv_from_equiv};
+
+    ghost eq = { same.value };
+
+    ghost laws = { partial_equiv_from_equiv value_laws };
+
+    fn eq(&self, other: &Value) -> bool {
+        same_value(self, other)
+    }
+}
+
+impl Eq for Value {
+    ghost use Rattle.dc_types.specs.Exact.{value_laws};
+
+    ghost laws = { value_laws };
 }
 
 fn copy_path(alloc: Global, path: &Items<u64>) -> Result<Items<u64>, AllocError>

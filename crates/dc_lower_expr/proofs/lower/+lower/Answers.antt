@@ -1,15 +1,17 @@
-use Rattle.std.proofs.Common.{rules, ◌≡◌, ◌+◌, ◌≤◌, ◌∷◌, [], ◌++◌, length, map, ap, ap₂, sym, ◌∙◌, arith, append_assoc}
+use Rattle.std.proofs.Common.{rules, ◌≡◌, ◌+◌, ◌≤◌, ◌∷◌, [], ◌++◌, length, map, ap, sym, ◌∙◌, arith}
 use Rattle.std.proofs.lemmas.Result.{on_ok_weaker}
 use Rattle.dc_code.specs.declared.instr.Op.TheVariants as op
-use Rattle.dc_tree.specs.Weight.{tree_weight}
+use Rattle.dc_tree.specs.Weight.{tree_weight, operation_weight}
+use Rattle.dc_tree.specs.declared.tree.Tree.{Tree}
 use Rattle.dc_tree.specs.declared.tree.Tree.TheVariants.{rolls-Local, rolls-Assign, rolls-Print, rolls-Call}
 use Rattle.dc_tree.specs.declared.tree.Tree.TheOpen.{Tree-F}
 use Rattle.dc_tree.specs.declared.tree.Tree.TheFolds.{fold-roll-Tree}
 use denote.Param.Weighed.{at_most}
+use Rattle.dc_tree.specs.declared.tree.Tree.TheShapes.{weighed-Tree-Chain-3-at-2}
 use Rattle.dc_tree.proofs.tree.Tree.TheLaws.{the_size}
-use Rattle.dc_lower_expr.specs.Lowered.{Codes, instr, each_code, put_ops, line_ops, tree_code_step, tree_code}
+use Rattle.dc_lower_expr.specs.Lowered.{Codes, instr, each_code, put_ops, tree_code_step, tree_code}
 use Rattle.dc_lower_expr.specs.Slots.{names_of}
-use Rattle.dc_lower_expr.proofs.Lists.{weight_at, each_step, behind, printed}
+use Rattle.dc_lower_expr.proofs.Lists.{weight_at, operand_weight, each_step, operation_step, behind, printed}
 use Rattle.dc_lower_expr.proofs.Exprs.{some_weight}
 use Rattle.dc_lower_expr.proofs.lower.+lower.Goals as goal
 
@@ -49,7 +51,7 @@ lower_at-returns-in_ok-lower_each-in-Call t c =
     let old = c.args.instrs.now in
     let spare = c.args.spare in
     let a = each_code (map (tree_code names) args) (length old) spare in
-    let one : c.lower_each.new.instrs ≡ old ++ a = c.in_ok-lower_each-in-Call.ensures ∙ ap (λ l. old ++ each_code (map (tree_code names) l) (length old) spare) c.as_slice.ensures in
+    let one : c.lower_each.new.instrs ≡ old ++ a = c.in_ok-lower_each-in-Call.ensures ∙ ap (λ l. old ++ each_code (map (tree_code names) l) (length old) spare) c.as_slice-in-Call.ensures in
     on_ok_weaker c.put_op-in-Call.result (λ n. n ∙ ap (λ s. c.lower_each.new.instrs ++ instr place (op.Call s spare spare) ∷ []) e ∙ behind old a _ (instr place (op.Call (names.function f) spare spare) ∷ []) one ∙ ap (λ f. old ++ f (length old) spare) (sym q)) c.put_op-in-Call.ensures
 
 pub lower_at-returns-in_ok-put_line-in-Print : goal.lower_at-returns-in_ok-put_line-in-Print
@@ -88,3 +90,16 @@ lower_each-loop-e-preserved t c = (
   each_step (tree_code (names_of c.args.at.now)) c.args.instrs.now c.loop-e.instrs c.lower_at.new.instrs c.args.args.now c.loop-e.e-index c.args.spare c.loop-e.slot c.e-item.result c.loop-e.invariant.0 c.loop-e.invariant.1 c.loop-e-test.true c.e-item.is c.in_ok-lower_at.ensures,
   omega (arith, c.loop-e.invariant.1),
 )
+
+pub lower_operations-lower_at-requires : goal.lower_operations-lower_at-requires
+lower_operations-lower_at-requires t c =
+    let x = c.o-item.result in
+    let size = operand_weight c.args.operations.now c.loop-o.o-index x c.loop-o-test.true in
+    let room : c.args.spare + 1 + tree_weight x.operand ≤ 4194304 = omega (arith, size, ap operation_weight c.o-item.is, c.requires) in
+    let deep = at_most (weighed-Tree-Chain-3-at-2.weight Tree the_size) c.args.operations.now c.loop-o.o-index x c.loop-o-test.true in
+    let same = ap (weighed-Tree-Chain-3-at-2.weight Tree the_size) c.o-item.is in
+    search (rules, room, deep, same)
+
+pub lower_operations-loop-o-preserved : goal.lower_operations-loop-o-preserved
+lower_operations-loop-o-preserved t c =
+    operation_step (names_of c.args.at.now) c.args.place.now c.args.kind c.args.instrs.now c.loop-o.instrs c.lower_at.new.instrs c.put_op.new.instrs c.args.operations.now c.loop-o.o-index c.args.spare c.o-item.result c.loop-o.invariant c.loop-o-test.true c.o-item.is c.in_ok-lower_at.ensures c.in_ok-put_op.ensures

@@ -1,4 +1,5 @@
-use Rattle.dc_types.specs.Equal.{places, consts, args_, spans, spots}
+use Rattle.dc_types.specs.Equal.{places, consts, args_, takes, params, bindings, call_params, candidates, fields, is_forms, questions, refusals, traps, events_, ranges, spans, spots}
+use Rattle.dc_types.specs.Exact.{ty-Decides, tree-Decides, pattern-Decides, value-Decides, source-Decides}
 use Rattle.dc_types.proofs.laws.comparison_laws.Goals as goal
 
 pub returns-clause-places : goal.returns-clause-places
@@ -10,8 +11,59 @@ returns-clause-consts c = consts
 pub returns-clause-args : goal.returns-clause-args
 returns-clause-args c = args_
 
+pub returns-clause-takes : goal.returns-clause-takes
+returns-clause-takes c = takes
+
+pub returns-clause-params : goal.returns-clause-params
+returns-clause-params c = params
+
+pub returns-clause-bindings : goal.returns-clause-bindings
+returns-clause-bindings c = bindings
+
+pub returns-clause-call_params : goal.returns-clause-call_params
+returns-clause-call_params c = call_params
+
+pub returns-clause-candidates : goal.returns-clause-candidates
+returns-clause-candidates c = candidates
+
+pub returns-clause-fields : goal.returns-clause-fields
+returns-clause-fields c = fields
+
+pub returns-clause-is_forms : goal.returns-clause-is_forms
+returns-clause-is_forms c = is_forms
+
+pub returns-clause-questions : goal.returns-clause-questions
+returns-clause-questions c = questions
+
+pub returns-clause-refusals : goal.returns-clause-refusals
+returns-clause-refusals c = refusals
+
+pub returns-clause-traps : goal.returns-clause-traps
+returns-clause-traps c = traps
+
+pub returns-clause-events : goal.returns-clause-events
+returns-clause-events c = events_
+
+pub returns-clause-ranges : goal.returns-clause-ranges
+returns-clause-ranges c = ranges
+
 pub returns-clause-spans : goal.returns-clause-spans
 returns-clause-spans c = spans
 
 pub returns-clause-spots : goal.returns-clause-spots
 returns-clause-spots c = spots
+
+pub returns-clause-types : goal.returns-clause-types
+returns-clause-types c = ty-Decides
+
+pub returns-clause-trees : goal.returns-clause-trees
+returns-clause-trees c = tree-Decides
+
+pub returns-clause-patterns : goal.returns-clause-patterns
+returns-clause-patterns c = pattern-Decides
+
+pub returns-clause-values : goal.returns-clause-values
+returns-clause-values c = value-Decides
+
+pub returns-clause-sources : goal.returns-clause-sources
+returns-clause-sources c = source-Decides

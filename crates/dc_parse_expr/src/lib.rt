@@ -1,0 +1,18 @@
+//! The parser of expressions and types.
+#![tactic(auto)]
+
+mod list;
+mod operands;
+mod operators;
+mod parse;
+mod reading;
+mod rules;
+mod single;
+mod suffixes;
+#[cfg(test)]
+mod tests;
+mod tree;
+mod types;
+
+pub use parse::parse_expression;
+pub use reading::ExprReader;
