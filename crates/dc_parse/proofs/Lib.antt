@@ -1,0 +1,3 @@
+mod Tails
+mod Links
+mod Answered

@@ -1,0 +1,9 @@
+use Rattle.std.proofs.Common.{refl}
+use Rattle.dc_grammar.specs.Terminals.{same_terminal}
+use Rattle.dc_grammar.proofs.Wholes.{every_module}
+use Rattle.dc_parse.proofs.Answered.{answered}
+use Rattle.dc_parse.proofs.parse.whole_module.Goals as goal
+
+pub returns-in-Ok : goal.returns-in-Ok
+unfolding same_terminal
+returns-in-Ok g c = answered every_module refl c.args.source.now.tokens.now c.args.at.now c.in-Ok.tree c.in-Ok.end c.whole.result c.in-Ok.ensures c.whole.ensures

@@ -1,0 +1,9 @@
+use Rattle.std.proofs.Common.{refl}
+use Rattle.dc_grammar.specs.Terminals.{same_terminal}
+use Rattle.dc_grammar.proofs.Wholes.{every_stmts}
+use Rattle.dc_parse.proofs.Answered.{answered}
+use Rattle.dc_parse.proofs.parse.whole_statements.Goals as goal
+
+pub returns-in-Ok : goal.returns-in-Ok
+unfolding same_terminal
+returns-in-Ok g c = answered every_stmts refl c.args.source.now.tokens.now c.args.at.now c.in-Ok.trees c.in-Ok.end c.whole.result c.in-Ok.ensures c.whole.ensures
