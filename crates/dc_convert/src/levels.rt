@@ -93,7 +93,7 @@ fn all_fit(items: &[Source], to: &Ty) -> bool
 #[tactic(auto, unfolding(crate::specs::Levels::level))]
 pub fn converts(from: &Source, to: &Ty) -> Level
     ensures value { result ≡ level from.now to.now }
-    ensures same { result ≡ 2 ↔ type_of from.now ≡ to.now }
+    ensures same { result ≡ 2 ↔ (out-Source from.now).ty ≡ to.now }
     ensures keeps { (k j : Kind) → (z : ℤ) → kind_of (type_of from.now) ≡ Some k → kind_of to.now ≡ Some j → (result ≡ 0 → ⊥) → InKind k z → Within (out-Source from.now).range z → Keeps k j z }
 {
     if same_ty(&from.ty, to) {
