@@ -88,9 +88,12 @@ pub enum StmtBody {
     Braces(Items<Stmt>),
 }
 
+/// What a `for` begins with, before its condition.
 #[derive(Drop)]
 pub enum ForStart {
-    Variable(VariableTree),
+    /// `int i = 0, j;`, and where it begins.
+    Variable { at: u32, variables: VariableTree },
+    /// `i = 0;`, or the `;` alone.
     Expr(Option<Expr>),
 }
 

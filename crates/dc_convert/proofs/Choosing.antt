@@ -1,10 +1,8 @@
 -- Of two candidates at most one beats the other, and at most one is the best.
-use Rattle.std.proofs.Common.{◌≡◌, ◌∙◌, refl, sym, ap, subst, ℕ, ◌<◌, ◌⊎◌, inl, inr, Bool, true, false, not, ◌&&◌, List, arith}
-use Rattle.std.specs.List.{All, Contains}
+use Rattle.std.proofs.Common.{◌≡◌, sym, ◌⊎◌, inl, inr, Bool, true, false, not, ◌&&◌, arith}
 use Rattle.std.proofs.lemmas.List.Elements.{All-contains}
-use Rattle.dc_types.specs.declared.range.Source.{Source}
-use Rattle.dc_types.specs.declared.candidate.Candidate.{Candidate}
-use Rattle.dc_convert.specs.Best.{Numbered, numbered, level_of, is_above, is_more_special, before_by, goes_before, Beats, IsBest, OneBeats, OneBest}
+use Rattle.dc_convert.proofs.Numbering.{are_numbered}
+use Rattle.dc_convert.specs.Best.{Numbered, numbered, is_above, is_more_special, before_by, goes_before, Beats, OneBeats, OneBest}
 
 both_special : (f g : Bool) → (f && not g) ≡ true → (g && not f) ≡ true → ⊥
 both_special true true e h = cc
@@ -29,6 +27,6 @@ one_beats args a b (inr m) (inr n) = both_before a b m.1 n.1
 pub one_best : OneBest
 one_best sets args a b is_a is_b =
     elim (All-contains (λ other. (other.number ≡ a.number) ⊎ Beats args a other) (numbered sets) b is_a.beats is_b.stands) [
-      | inl same ↦ sym same
+      | inl same ↦ (are_numbered sets).distinct a b is_a.stands is_b.stands (sym same)
       | inr beaten ↦ absurd (All-contains (λ other. Beats args other b → ⊥) (numbered sets) a is_b.unbeaten is_a.stands beaten)
     ]

@@ -1,5 +1,5 @@
 -- The hull of two ranges is the least that holds both.
-use Rattle.std.proofs.Common.{◌≡◌, ℤ, ◌≤ℤ◌, Bool, true, false, cond}
+use Rattle.std.proofs.Common.{ℤ, ◌≤ℤ◌, Bool, true, false, cond}
 use Rattle.std.specs.Prelude.{int_lt}
 use Rattle.std.specs.Int.{int_min, int_max}
 use Rattle.dc_types.specs.declared.range.Range.{Range}

@@ -3,5 +3,9 @@ pub mod Sound
 pub mod Bases
 pub mod Keeping
 pub mod Losing
+pub mod Numbering
 pub mod Choosing
+pub mod Outcomes
+pub mod Causes
 pub mod Hulls
+mod Examples

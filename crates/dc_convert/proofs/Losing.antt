@@ -1,15 +1,15 @@
 -- A conversion of a number loses no value but in the cases that `Keeps` names, from enums and to enums too.
-use Rattle.std.proofs.Common.{◌≡◌, ◌∙◌, refl, sym, ap, subst, ℕ, Bool, true, false, ◌&&◌, ◌||◌, List, Option, Some, None, ℤ, ◌⊎◌, inl, inr}
+use Rattle.std.proofs.Common.{◌≡◌, ◌∙◌, refl, sym, ap, subst, Bool, true, false, ◌||◌, List, Option, Some, None, ℤ, ◌⊎◌, inl, inr}
 use Rattle.dc_types.specs.declared.kind.Kind.{Kind}
 use Rattle.dc_types.specs.declared.range.Range.{Range}
 use Rattle.dc_types.specs.declared.range.Source.{Source, map-Source, out-Source, roll-out-Source}
-use Rattle.dc_types.specs.declared.range.Source.TheOpen.{Source-F}
 use Rattle.dc_types.specs.declared.range.Source.TheFolds.{fold-roll-Source}
 use Rattle.dc_types.specs.declared.ty.Ty.{Ty, map-Ty}
-use Rattle.dc_types.specs.declared.ty.Ty.TheViews.{out-Ty, roll-Ty, out-roll-Ty, roll-out-Ty}
+use Rattle.dc_types.specs.declared.ty.Ty.TheViews.{out-Ty, roll-Ty, roll-out-Ty}
 use Rattle.dc_types.specs.declared.ty.Ty.TheOpen.{Ty-F}
 use Rattle.dc_types.specs.declared.ty.Ty.TheFolds.{fold-roll-Ty, ind-Ty}
-use Rattle.dc_types.specs.Integers.{InKind, bits_of}
+use Rattle.dc_types.specs.Integers.{InKind, wrap}
+use Rattle.dc_types.proofs.Integers.{wrap_in_kind}
 use Rattle.dc_types.specs.Exact.{ty-Decides}
 use Rattle.dc_types.specs.Same as same
 use Rattle.dc_convert.specs.Ranges.{Within}
@@ -22,8 +22,8 @@ one_kind : (k j : Kind) → Some k ≡ Some j → k ≡ j
 one_kind k j e = cc
 
 -- a number stays where its kind does
-same_kind : (k j : Kind) (z : ℤ) → k ≡ j → Keeps k j z
-same_kind k j z e = inr (inl (ap bits_of e))
+same_kind : (k j : Kind) (z : ℤ) → k ≡ j → InKind k z → Keeps k j z
+same_kind k j z e h = inl (subst (λ v. wrap v z ≡ z) e (wrap_in_kind k z h))
 
 either : (s t : Bool) → (s || t) ≡ true → (s ≡ true) ⊎ (t ≡ true)
 either true t e = inl refl
@@ -35,8 +35,8 @@ kind_rolled x = fold-roll-Ty (Option Kind) kind_at x
 kind_out : (t : Ty) → kind_of t ≡ kind_at (map-Ty Ty (Option Kind) kind_of (out-Ty t))
 kind_out t = ap kind_of (sym (roll-out-Ty t)) ∙ kind_rolled (out-Ty t)
 
-pub equal_types : (s t : Ty) (k j : Kind) (z : ℤ) → same.ty s t ≡ true → kind_of s ≡ Some k → kind_of t ≡ Some j → Keeps k j z
-equal_types s t k j z e p q = same_kind k j z (one_kind k j (sym p ∙ ap kind_of ((ty-Decides s t).0 e) ∙ q))
+pub equal_types : (s t : Ty) (k j : Kind) (z : ℤ) → same.ty s t ≡ true → kind_of s ≡ Some k → kind_of t ≡ Some j → InKind k z → Keeps k j z
+equal_types s t k j z e p q h = same_kind k j z (one_kind k j (sym p ∙ ap kind_of ((ty-Decides s t).0 e) ∙ q)) h
 
 module _ (r : Range) (place : Bool) where
   abbrev step : Ty-F Tests → Tests
@@ -57,7 +57,7 @@ module _ (r : Range) (place : Bool) where
       keeps k r j z (subst (λ v. number_goes k r v ≡ true) second (subst (λ v. number_goes v r b ≡ true) first e)) h i
   layer (Ty-F.Enum at base) to y k j z e p q w h i =
       elim (either ((tests r place base.0).is to) (goes r place base.0 to) e) [
-        | inl same_one ↦ equal_types base.0 to k j z (sym (tests_is r place base.0 to) ∙ same_one) p q
+        | inl same_one ↦ equal_types base.0 to k j z (sym (tests_is r place base.0 to) ∙ same_one) p q h
         | inr further ↦ base.1 to k j z further p q h i
       ]
   layer x to y k j z e p q w h i = absurd (cc)
@@ -86,7 +86,7 @@ fitting_keeps s to k j z e p q h i =
     let t = type_of s in let r = (out-Source s).range in let place = (out-Source s).place in
     elim (either (same.ty t to || goes r place t to) (literal_at o.items (out-Ty to)) whole) [
       | inl first ↦ elim (either (same.ty t to) (goes r place t to) first) [
-        | inl same_one ↦ equal_types t to k j z same_one p q
+        | inl same_one ↦ equal_types t to k j z same_one p q h
         | inr goes_on ↦ stays r place t to k j z goes_on p q h i
       ]
       | inr literal ↦ absurd (no_literal o.items (out-Ty to) j literal (sym (kind_out to) ∙ q))

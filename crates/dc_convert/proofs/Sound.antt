@@ -1,6 +1,6 @@
 -- Each result of an operation lies in its range.
-use Rattle.std.proofs.Common.{◌≡◌, ◌∙◌, refl, sym, ap, subst, ℕ, zero, suc, ◌+◌, ◌-◌, ◌*◌, ◌/◌, ◌%◌, ◌^◌, ◌<◌, ◌≤◌, Bool, true, false, cond, ◌&&◌, ℤ, pos, negsuc, neg_ℤ, ◌+ℤ◌, ◌-ℤ◌, ◌*ℤ◌, ◌≤ℤ◌, ◌<ℤ◌, unsigned_abs, ◌⊎◌, inl, inr, Result, Ok, Err, bit_and, bit_or, arith}
-use Rattle.std.specs.Prelude.{int_lt, int_le, int_div, int_rem}
+use Rattle.std.proofs.Common.{◌≡◌, ◌∙◌, refl, sym, ap, subst, ℕ, suc, ◌-◌, ◌*◌, ◌/◌, ◌%◌, ◌^◌, ◌<◌, ◌≤◌, Bool, true, false, cond, ◌&&◌, ℤ, pos, negsuc, neg_ℤ, ◌+ℤ◌, ◌-ℤ◌, ◌*ℤ◌, ◌≤ℤ◌, ◌<ℤ◌, unsigned_abs, ◌⊎◌, inl, inr, Result, Ok, Err, bit_and, bit_or, arith}
+use Rattle.std.specs.Prelude.{int_div, int_rem}
 use Rattle.std.specs.Int.{int_min, int_max, int_div_euclid, leading_zeros, w64}
 use Rattle.std.specs.Ordering.{int_eq}
 use Rattle.std.proofs.lemmas.Int.{ints, clamps}
@@ -14,7 +14,7 @@ use Rattle.dc_types.specs.declared.kind.BinOp.{BinOp}
 use Rattle.dc_types.specs.declared.kind.BinOp.TheVariants as binop
 use Rattle.dc_types.specs.declared.event.TrapKind.{TrapKind}
 use Rattle.dc_types.specs.declared.range.Range.{Range}
-use Rattle.dc_types.specs.Integers.{least, greatest, InKind, FitsRight, wrap, bits_of, binary, can_divide, can_shift, residue, pattern}
+use Rattle.dc_types.specs.Integers.{greatest, InKind, FitsRight, wrap, bits_of, binary, can_divide, can_shift, pattern}
 use Rattle.dc_types.proofs.Integers.{InKind-wrap, wrap_in_kind, residue_small}
 use Rattle.dc_types.proofs.Values.{InKind-binary}
 use Rattle.dc_convert.specs.Ranges.{Within, IsWide, whole, lies, fitted, spanned, above_zero, from_zero, has_quotient, sum, difference, product, quotient, remainder, conjunction, disjunction, ones, shifted, range_of}

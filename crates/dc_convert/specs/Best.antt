@@ -1,7 +1,6 @@
 -- Which candidate a call chooses (D specification, "Functions", "Function Overloading").
-use Rattle.std.specs.Prelude.{◌≡◌, ◌<◌, ◌+◌, ◌⊎◌, ℕ, suc, min, Bool, true, false, not, ◌&&◌, List, [], ◌∷◌, ◌++◌, length, unwrap_or, if◌then◌else◌}
-use Rattle.std.specs.List.{slice_get, All, Contains}
-use Rattle.dc_types.specs.declared.ty.Ty.{Ty}
+use Rattle.std.specs.Prelude.{◌≡◌, ◌<◌, ◌+◌, ◌⊎◌, ◌↔◌, ℕ, suc, min, Bool, true, false, not, ◌&&◌, List, [], ◌∷◌, ◌++◌, length, map, unwrap_or, if◌then◌else◌}
+use Rattle.std.specs.List.{slice_get, slice_index_or, flat_map, All, Contains}
 use Rattle.dc_types.specs.declared.range.Source.{Source, out-Source}
 use Rattle.dc_types.specs.declared.candidate.CallParam.{CallParam}
 use Rattle.dc_types.specs.declared.candidate.Candidate.{Candidate}
@@ -71,10 +70,71 @@ pub record IsBest (sets : List (List Candidate)) (args : List Source) (best : Nu
   pub unbeaten : All (λ other. Beats args other best → ⊥) (numbered sets)
   pub alone : All (λ other. (other.set ≡ best.set) ⊎ (level_of args other ≡ 0)) (numbered sets)
 
+-- one of the candidates is the best
+pub record HasBest (sets : List (List Candidate)) (args : List Source) : Type 0 where
+  pub best : Numbered
+  pub is_best : IsBest sets args best
+
+-- no candidate matches
+abbrev pub NoMatch : List (List Candidate) → List Source → Type 0
+NoMatch sets args = All (λ c. level_of args c ≡ 0) (numbered sets)
+
+-- some candidate matches, and none is the best
+pub record Ambiguous (sets : List (List Candidate)) (args : List Source) : Type 0 where
+  pub some : Numbered
+  pub stands : Contains (numbered sets) some
+  pub matches : 0 < level_of args some
+  pub none : (c : Numbered) → IsBest sets args c → ⊥
+
+-- ---- laws
+
+-- the candidates of all sets stand there once, in order, each with its number
+pub record AreNumbered (sets : List (List Candidate)) : Type 0 where
+  pub all : map (λ c. c.candidate) (numbered sets) ≡ flat_map (λ set. set) sets
+  pub numbers : (k : ℕ) (d : Numbered) → k < length (numbered sets) → (slice_index_or (numbered sets) k d).number ≡ k
+  pub distinct : (a b : Numbered) → Contains (numbered sets) a → Contains (numbered sets) b → a.number ≡ b.number → a ≡ b
+
+abbrev pub Numbers : Type 0
+Numbers = (sets : List (List Candidate)) → AreNumbered sets
+
 -- of two candidates at most one beats the other
 abbrev pub OneBeats : Type 0
 OneBeats = (args : List Source) (a b : Numbered) → Beats args a b → Beats args b a → ⊥
 
 -- at most one candidate is the best
 abbrev pub OneBest : Type 0
-OneBest = (sets : List (List Candidate)) (args : List Source) (a b : Numbered) → IsBest sets args a → IsBest sets args b → a.number ≡ b.number
+OneBest = (sets : List (List Candidate)) (args : List Source) (a b : Numbered) → IsBest sets args a → IsBest sets args b → a ≡ b
+
+-- of the three outcomes exactly one holds
+pub record OneHolds (sets : List (List Candidate)) (args : List Source) : Type 0 where
+  pub one : HasBest sets args ⊎ (NoMatch sets args ⊎ Ambiguous sets args)
+  pub not_best_and_none : HasBest sets args → NoMatch sets args → ⊥
+  pub not_best_and_ambiguous : HasBest sets args → Ambiguous sets args → ⊥
+  pub not_none_and_ambiguous : NoMatch sets args → Ambiguous sets args → ⊥
+
+abbrev pub OneOutcome : Type 0
+OneOutcome = (sets : List (List Candidate)) (args : List Source) → OneHolds sets args
+
+-- the candidate beats each other one
+abbrev pub BeatsAll : List (List Candidate) → List Source → Numbered → Type 0
+BeatsAll sets args c = All (λ other. (other.number ≡ c.number) ⊎ Beats args c other) (numbered sets)
+
+-- candidates of two sets match
+pub record MatchInTwo (sets : List (List Candidate)) (args : List Source) : Type 0 where
+  pub a : Numbered
+  pub b : Numbered
+  pub a_stands : Contains (numbered sets) a
+  pub b_stands : Contains (numbered sets) b
+  pub a_matches : 0 < level_of args a
+  pub b_matches : 0 < level_of args b
+  pub apart : a.set ≡ b.set → ⊥
+
+-- A call is ambiguous exactly where a candidate matches, and none beats all others or candidates of two sets match.
+pub record IsUndecided (sets : List (List Candidate)) (args : List Source) : Type 0 where
+  pub some : Numbered
+  pub stands : Contains (numbered sets) some
+  pub matches : 0 < level_of args some
+  pub cause : All (λ c. BeatsAll sets args c → ⊥) (numbered sets) ⊎ MatchInTwo sets args
+
+abbrev pub Causes : Type 0
+Causes = (sets : List (List Candidate)) (args : List Source) → Ambiguous sets args ↔ IsUndecided sets args

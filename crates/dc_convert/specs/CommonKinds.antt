@@ -1,5 +1,5 @@
 -- The kind in which an operation on two numbers is done (D specification, "Types", "Usual Arithmetic Conversions").
-use Rattle.std.specs.Prelude.{ℕ, nat_lt, nat_le, Bool, true, false, not, ◌&&◌, List, [], ◌∷◌, map, Option, Some, None, if◌then◌else◌}
+use Rattle.std.specs.Prelude.{nat_lt, nat_le, Bool, true, false, ◌&&◌, List, [], ◌∷◌, map, Option, Some, None, if◌then◌else◌}
 use Rattle.std.specs.List.{list_all}
 use Rattle.dc_types.specs.declared.kind.Kind.{Kind}
 use Rattle.dc_types.specs.declared.kind.Kind.TheVariants as kinds

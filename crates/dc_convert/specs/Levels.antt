@@ -1,5 +1,5 @@
 -- How well a source fits a type (D specification, "Types", "Implicit Conversions").
-use Rattle.std.specs.Prelude.{◌≡◌, ◌⊎◌, ◌<ℤ◌, ℤ, pos, ℕ, ◌==◌, nat_le, Bool, true, false, not, ◌&&◌, ◌||◌, List, length, Option, Some, None, if◌then◌else◌}
+use Rattle.std.specs.Prelude.{◌≡◌, ◌⊎◌, ◌≤◌, ◌<ℤ◌, ℤ, pos, ℕ, ◌==◌, nat_le, Bool, true, false, not, ◌&&◌, ◌||◌, List, length, Option, Some, None, if◌then◌else◌}
 use Rattle.std.specs.List.{list_all}
 use Rattle.dc_types.specs.declared.kind.Kind.{Kind}
 use Rattle.dc_types.specs.declared.kind.Kind.TheVariants as kinds
@@ -12,7 +12,7 @@ use Rattle.dc_types.specs.declared.ty.Ty.TheVariants as ty
 use Rattle.dc_types.specs.declared.ty.Ty.TheViews.{out-Ty}
 use Rattle.dc_types.specs.declared.ty.Ty.TheOpen.{Ty-F}
 use Rattle.dc_types.specs.declared.ty.Ty.TheFolds.{fold-Ty}
-use Rattle.dc_types.specs.Integers.{bits_of, is_signed, wrap}
+use Rattle.dc_types.specs.Integers.{bits_of, is_signed, greatest, wrap}
 use Rattle.dc_types.specs.Same as same
 use Rattle.dc_convert.specs.Ranges.{lies}
 
@@ -24,10 +24,28 @@ widens k to = nat_le (bits_of k) (bits_of to) && not (same.kind to kinds.Bool)
 abbrev pub number_goes : Kind → Range → Kind → Bool
 number_goes k r to = widens k to || lies r to
 
--- What is left of a number that goes from a kind to another: it stays the same, unless the kinds have equal width, or
--- it is below 0 and goes to an unsigned kind.
+-- a number of an unsigned kind that is past the greatest of a signed one of equal width
+pub record IsPast (k to : Kind) (z : ℤ) : Type 0 where
+  pub from : is_signed k ≡ false
+  pub onto : is_signed to ≡ true
+  pub width : bits_of k ≡ bits_of to
+  pub past : greatest to <ℤ z
+
+-- a number below 0 that goes to an unsigned kind, at least as wide and not `bool`
+pub record IsBelow (k to : Kind) (z : ℤ) : Type 0 where
+  pub from : is_signed k ≡ true
+  pub onto : is_signed to ≡ false
+  pub other : to ≡ kinds.Bool → ⊥
+  pub width : bits_of k ≤ bits_of to
+  pub below : z <ℤ pos 0
+
+-- What is left of a number that goes from a kind to another: it stays the same, but in these two cases.
 abbrev pub Keeps : Kind → Kind → ℤ → Type 0
-Keeps k to z = (wrap to z ≡ z) ⊎ ((bits_of k ≡ bits_of to) ⊎ ((z <ℤ pos 0) × (is_signed to ≡ false)))
+Keeps k to z = (wrap to z ≡ z) ⊎ (IsPast k to z ⊎ IsBelow k to z)
+
+-- in the two cases the kind goes to the other, and the number doesn't stay the same
+abbrev pub LosesThere : Type 0
+LosesThere = (k to : Kind) (z : ℤ) → IsPast k to z ⊎ IsBelow k to z → (widens k to ≡ true) × (wrap to z ≡ z → ⊥)
 
 -- the tests of a part: whether it is a type, and whether it goes to one
 pub record Tests : Type 0 where

@@ -1,6 +1,6 @@
 -- The ranges of operations: intervals of whole numbers among which all results lie (D specification, "Types",
 -- "Implicit Conversions", value range propagation).
-use Rattle.std.specs.Prelude.{ℕ, ◌-◌, ◌^◌, Bool, true, false, ◌&&◌, ◌||◌, ℤ, pos, ◌+ℤ◌, ◌-ℤ◌, ◌*ℤ◌, ◌≤ℤ◌, ◌<ℤ◌, neg_ℤ, unsigned_abs, int_lt, int_le, int_div, if◌then◌else◌}
+use Rattle.std.specs.Prelude.{ℕ, ◌-◌, ◌^◌, Bool, ◌&&◌, ◌||◌, ℤ, pos, ◌+ℤ◌, ◌-ℤ◌, ◌*ℤ◌, ◌≤ℤ◌, ◌<ℤ◌, neg_ℤ, unsigned_abs, int_lt, int_le, int_div, if◌then◌else◌}
 use Rattle.std.specs.Int.{int_min, int_max, int_div_euclid, leading_zeros, w64}
 use Rattle.std.specs.Ordering.{int_eq}
 use Rattle.dc_types.specs.declared.kind.Kind.{Kind}

@@ -14,7 +14,7 @@ use Rattle.dc_grammar.specs.declared.terminal.Terminal.TheVariants as k
 use Rattle.dc_grammar.specs.Terminals.{Tokens, ahead, start_of, terminal_of, same_terminal, basic_type}
 use Rattle.dc_grammar.specs.Trees.{expr, symbol, type_tree, name_of, spelling_of}
 use Rattle.dc_grammar.specs.Grammar as g
-use Rattle.dc_grammar.specs.Grammar.{Mark, Named, Means, Id, Word, IsExpr, IsConditional, IsOr, AreOrs, IsAnd, AreAnds, IsBitOr, AreBitOrs, IsBitXor, AreBitXors, IsBitAnd, AreBitAnds, IsComparison, IsShift, AreShiftSteps, IsSum, AreTerms, IsProduct, AreFactors, IsUnary, IsPostfix, AreSlices, IsLength, AreSuffixes, IsSuffix, IsOperand, IsPrimary, IsIsTree, IsIsTest, IsAgainstWhat, MoreNames, AreExprs, MoreExprs, AreArguments, MoreArguments, IsArgument, IsSymbol, AreTemplateArguments, IsSingle, IsType, IsBareType, IsBase, MoreSymbols, IsPlainBase, AreBrackets}
+use Rattle.dc_grammar.specs.Grammar.{Mark, Named, Means, Id, Word, IsExpr, IsConditional, IsOr, AreOrs, IsAnd, AreAnds, IsBitOr, AreBitOrs, IsBitXor, AreBitXors, IsBitAnd, AreBitAnds, IsComparison, IsShift, AreShiftSteps, IsSum, AreTerms, IsProduct, AreFactors, IsUnary, IsPostfix, AreSuffixes, IsSuffix, IsOperand, IsPrimary, IsIsTree, IsIsTest, IsAgainstWhat, MoreNames, AreExprs, MoreExprs, AreArguments, MoreArguments, IsArgument, IsSymbol, AreTemplateArguments, IsSingle, IsType, IsBareType, IsBase, MoreSymbols, IsPlainBase, AreBrackets}
 use Rattle.dc_grammar.specs.declared.level.Level.{Level}
 use Rattle.dc_grammar.specs.declared.level.Level.TheVariants as l
 use Rattle.dc_grammar.specs.Reading.{Outcome, Reader, either, or_else, ◌<$>◌, and_then, pure}

@@ -19,7 +19,7 @@ use Rattle.dc_grammar.specs.declared.terminal.Terminal.TheVariants as k
 use Rattle.dc_grammar.specs.Terminals.{Tokens, terminal_of}
 use Rattle.dc_grammar.specs.Brackets.{open_behind, behind}
 use Rattle.dc_grammar.specs.Grammar as g
-use Rattle.dc_grammar.specs.Grammar.{Mark, Named, Means, IsExpr, IsConditional, IsOr, AreOrs, IsAnd, AreAnds, IsBitOr, AreBitOrs, IsBitXor, AreBitXors, IsBitAnd, AreBitAnds, IsComparison, IsShift, AreShiftSteps, IsSum, AreTerms, IsProduct, AreFactors, IsUnary, IsPostfix, AreSlices, IsLength, AreSuffixes, IsSuffix, IsOperand, IsPrimary, IsIsTree, IsIsTest, IsAgainstWhat, MoreNames, AreExprs, MoreExprs, AreArguments, MoreArguments, IsArgument, IsSymbol, AreTemplateArguments, IsSingle, IsType, IsBareType, IsBase, MoreSymbols, IsPlainBase, AreBrackets}
+use Rattle.dc_grammar.specs.Grammar.{Mark, Named, Means, IsExpr, IsConditional, IsOr, AreOrs, IsAnd, AreAnds, IsBitOr, AreBitOrs, IsBitXor, AreBitXors, IsBitAnd, AreBitAnds, IsComparison, IsShift, AreShiftSteps, IsSum, AreTerms, IsProduct, AreFactors, IsUnary, IsPostfix, AreSuffixes, IsSuffix, IsOperand, IsPrimary, IsIsTree, IsIsTest, IsAgainstWhat, MoreNames, AreExprs, MoreExprs, AreArguments, MoreArguments, IsArgument, IsSymbol, AreTemplateArguments, IsSingle, IsType, IsBareType, IsBase, MoreSymbols, IsPlainBase, AreBrackets}
 use Rattle.dc_grammar.proofs.Good.{given_by}
 use Rattle.dc_grammar.proofs.Choices.{Within, within}
 
@@ -156,15 +156,7 @@ mutual
   pub in_postfix : {w : Tokens} {x : Expr} → IsPostfix w x → Balanced w
   in_postfix (g.an_operand h1) = in_operand h1
   in_postfix (g.postfix h1 h2) = on (in_operand h1) (in_suffixes h2)
-  in_postfix (g.new m1 h2 h3 h4 h5) = on (mark m1 refl) (on (in_bare_type h2) (on (in_slices h3) (on (in_length h4) (in_suffixes h5))))
-
-  pub in_slices : {w : Tokens} {x : List Suffix} → AreSlices w x → Balanced w
-  in_slices g.no_slices = empty
-  in_slices (g.slices m1 m2 h3) = on (mark m1 refl) (on (mark m2 refl) (in_slices h3))
-
-  pub in_length : {w : Tokens} {x : Suffix} → IsLength w x → Balanced w
-  in_length (g.length_index m1 h2 m3) = on (mark m1 refl) (on (in_expr h2) (mark m3 refl))
-  in_length (g.length_call p1 h2 q3) = opens p1 (inside (in_expr h2) (shuts q3))
+  in_postfix (g.new m1 h2 h3 e) = on (mark m1 refl) (on (in_bare_type h2) (in_suffixes h3))
 
   pub in_suffixes : {w : Tokens} {x : List Suffix} → AreSuffixes w x → Balanced w
   in_suffixes g.no_suffixes = empty

@@ -8,7 +8,7 @@ use Rattle.dc_grammar.specs.declared.terminal.Terminal.{Terminal}
 use Rattle.dc_grammar.specs.declared.terminal.Terminal.TheVariants as k
 use Rattle.dc_grammar.specs.Terminals.{Tokens, ahead, terminal_of, same_terminal, basic_type, unary_operator}
 use Rattle.dc_grammar.specs.Grammar as g
-use Rattle.dc_grammar.specs.Grammar.{Mark, Named, Means, Id, Word, placed, IsExpr, IsConditional, IsOr, AreOrs, IsAnd, AreAnds, IsBitOr, AreBitOrs, IsBitXor, AreBitXors, IsBitAnd, AreBitAnds, IsComparison, IsShift, AreShiftSteps, IsSum, AreTerms, IsProduct, AreFactors, IsUnary, IsPostfix, AreSlices, IsLength, AreSuffixes, IsSuffix, IsOperand, IsPrimary, IsIsTree, IsIsTest, IsAgainstWhat, MoreNames, AreExprs, MoreExprs, AreArguments, MoreArguments, IsArgument, IsSymbol, AreTemplateArguments, IsSingle, IsType, IsBareType, IsBase, MoreSymbols, IsPlainBase, AreBrackets}
+use Rattle.dc_grammar.specs.Grammar.{Mark, Named, Means, Id, Word, placed, IsExpr, IsConditional, IsOr, AreOrs, IsAnd, AreAnds, IsBitOr, AreBitOrs, IsBitXor, AreBitXors, IsBitAnd, AreBitAnds, IsComparison, IsShift, AreShiftSteps, IsSum, AreTerms, IsProduct, AreFactors, IsUnary, IsPostfix, AreSuffixes, IsSuffix, IsOperand, IsPrimary, IsIsTree, IsIsTest, IsAgainstWhat, MoreNames, AreExprs, MoreExprs, AreArguments, MoreArguments, IsArgument, IsSymbol, AreTemplateArguments, IsSingle, IsType, IsBareType, IsBase, MoreSymbols, IsPlainBase, AreBrackets}
 use Rattle.dc_grammar.proofs.Good.{Begins, given_by}
 use Rattle.dc_grammar.proofs.Choices.{apart, within}
 use Rattle.dc_grammar.proofs.Edges.{begins_expr}
@@ -140,7 +140,7 @@ dotted_operand w x (g.operand {x = y} h) = dotted_primary w y h
 dotted_postfix : (w : Tokens) (x : Expr) → IsPostfix w x → Dotted w
 dotted_postfix w x (g.an_operand h) = dotted_operand w x h
 dotted_postfix w x (g.postfix {w1 = w1} {w2 = w2} {x = y} h c) = on_with w1 w2 (dotted_operand w1 y h)
-dotted_postfix w x (g.new {w1 = w1} {w2 = w2} {w3 = w3} {w4 = w4} {w5 = w5} m h c q f) = on_with w1 (w2 ++ (w3 ++ (w4 ++ w5))) (marked k.New w1 m refl refl (λ q. cc))
+dotted_postfix w x (g.new {w1 = w1} {w2 = w2} {w3 = w3} m h c e) = on_with w1 (w2 ++ w3) (marked k.New w1 m refl refl (λ q. cc))
 
 pub dotted_unary : (w : Tokens) (x : Expr) → IsUnary w x → Dotted w
 dotted_unary w x (g.prefix {w1 = w1} {w2 = w2} {o = o} m h) = on_with w1 w2 (record {

@@ -96,7 +96,7 @@ Switched = whole_stmts (keyword 0 (codes "switch") ∷ mark 1 (codes "(") ∷ ca
 
 -- loops
 abbrev Loops : Type 0
-Loops = whole_stmts (keyword 0 (codes "for") ∷ mark 1 (codes "(") ∷ keyword 2 (codes "int") ∷ called 3 (codes "i") ∷ mark 4 (codes "=") ∷ called 5 (codes "a") ∷ mark 6 (codes ";") ∷ mark 7 (codes ";") ∷ mark 8 (codes ")") ∷ mark 9 (codes ";") ∷ keyword 10 (codes "foreach") ∷ mark 11 (codes "(") ∷ keyword 12 (codes "ref") ∷ keyword 13 (codes "int") ∷ called 14 (codes "i") ∷ mark 15 (codes ",") ∷ called 16 (codes "x") ∷ mark 17 (codes ";") ∷ called 18 (codes "a") ∷ mark 19 (codes "..") ∷ called 20 (codes "b") ∷ mark 21 (codes ")") ∷ mark 22 (codes "{") ∷ mark 23 (codes "}") ∷ []) ≡ Some (m.stmt 0 (s.For (start.Variable (m.variables None (Some (int_type 2)) (m.variable (id 3 (codes "i")) (Some (var 5 (codes "a"))) ∷ []))) None None (m.stmt 9 s.Empty)) ∷ m.stmt 10 (s.Foreach (m.loop_name true (Some (int_type 13)) (id 14 (codes "i")) ∷ m.loop_name false None (id 16 (codes "x")) ∷ []) (var 18 (codes "a")) (Some (var 20 (codes "b"))) (m.stmt 22 (s.Block []))) ∷ [], [])
+Loops = whole_stmts (keyword 0 (codes "for") ∷ mark 1 (codes "(") ∷ keyword 2 (codes "int") ∷ called 3 (codes "i") ∷ mark 4 (codes "=") ∷ called 5 (codes "a") ∷ mark 6 (codes ";") ∷ mark 7 (codes ";") ∷ mark 8 (codes ")") ∷ mark 9 (codes ";") ∷ keyword 10 (codes "foreach") ∷ mark 11 (codes "(") ∷ keyword 12 (codes "ref") ∷ keyword 13 (codes "int") ∷ called 14 (codes "i") ∷ mark 15 (codes ",") ∷ called 16 (codes "x") ∷ mark 17 (codes ";") ∷ called 18 (codes "a") ∷ mark 19 (codes "..") ∷ called 20 (codes "b") ∷ mark 21 (codes ")") ∷ mark 22 (codes "{") ∷ mark 23 (codes "}") ∷ []) ≡ Some (m.stmt 0 (s.For (start.Variable 2 (m.variables None (Some (int_type 2)) (m.variable (id 3 (codes "i")) (Some (var 5 (codes "a"))) ∷ []))) None None (m.stmt 9 s.Empty)) ∷ m.stmt 10 (s.Foreach (m.loop_name true (Some (int_type 13)) (id 14 (codes "i")) ∷ m.loop_name false None (id 16 (codes "x")) ∷ []) (var 18 (codes "a")) (Some (var 20 (codes "b"))) (m.stmt 22 (s.Block []))) ∷ [], [])
 
 -- attributes, sections and groups
 abbrev Attributes : Type 0

@@ -1,5 +1,5 @@
 -- The rules as forms, factored as they are read; and each rule of the grammar is its form.
-use Rattle.std.proofs.Common.{◌≡◌, List, [], ◌∷◌, ◌++◌, Option, Some, None, refl, sym, ap, ◌∙◌, append_assoc, inl, inr}
+use Rattle.std.proofs.Common.{◌≡◌, List, [], ◌∷◌, ◌++◌, Option, Some, None, refl, sym, ap, subst, ◌∙◌, append_assoc, inl, inr}
 use Rattle.dc_ast.specs.declared.word.BinaryOperator.{BinaryOperator}
 use Rattle.dc_ast.specs.declared.name.Name.{Name}
 use Rattle.dc_ast.specs.declared.expression.Expr.{Expr}
@@ -7,6 +7,8 @@ use Rattle.dc_ast.specs.declared.expression.ExprKind.{ExprKind}
 use Rattle.dc_ast.specs.declared.expression.ExprKind.TheVariants as e
 use Rattle.dc_ast.specs.declared.expression.Step.{Step}
 use Rattle.dc_ast.specs.declared.expression.Suffix.{Suffix}
+use Rattle.dc_ast.specs.declared.expression.Argument.TheOpen.{Suffix-F}
+use Rattle.dc_ast.specs.declared.expression.Argument.TheViews.{roll-Suffix, out-roll-Suffix}
 use Rattle.dc_ast.specs.declared.expression.Suffix.TheVariants as s
 use Rattle.dc_ast.specs.declared.expression.Symbol.{Symbol}
 use Rattle.dc_ast.specs.declared.expression.Argument.{Argument}
@@ -23,9 +25,10 @@ use Rattle.dc_ast.specs.declared.types.Bracket.TheVariants as d
 use Rattle.dc_grammar.specs.declared.terminal.Terminal.{Terminal}
 use Rattle.dc_grammar.specs.declared.terminal.Terminal.TheVariants as k
 use Rattle.dc_grammar.specs.Terminals.{Tokens, start_of, basic_type, unary_operator, multiplies, adds, shifts, compares, bit_and_operator, bit_xor_operator, bit_or_operator, and_operator, or_operator, assign_operator, is_relation}
+use Rattle.dc_grammar.specs.NewArrays.{NewArray, new_array, Form, called, called_at, counted, counted_at, first_of, with_bracket}
 use Rattle.dc_grammar.specs.Trees.{expr, step, symbol, type_tree, is_tree, is_test}
 use Rattle.dc_grammar.specs.Grammar as g
-use Rattle.dc_grammar.specs.Grammar.{Mark, Named, Means, Id, Word, placed, IsExpr, IsConditional, IsOr, AreOrs, IsAnd, AreAnds, IsBitOr, AreBitOrs, IsBitXor, AreBitXors, IsBitAnd, AreBitAnds, IsComparison, IsShift, AreShiftSteps, IsSum, AreTerms, IsProduct, AreFactors, IsUnary, IsPostfix, AreSlices, IsLength, AreSuffixes, IsSuffix, IsOperand, IsPrimary, IsIsTree, IsIsTest, IsAgainstWhat, MoreNames, AreExprs, MoreExprs, AreArguments, MoreArguments, IsArgument, IsSymbol, AreTemplateArguments, IsSingle, IsType, IsBareType, IsBase, MoreSymbols, IsPlainBase, AreBrackets}
+use Rattle.dc_grammar.specs.Grammar.{Mark, Named, Means, Id, Word, placed, IsExpr, IsConditional, IsOr, AreOrs, IsAnd, AreAnds, IsBitOr, AreBitOrs, IsBitXor, AreBitXors, IsBitAnd, AreBitAnds, IsComparison, IsShift, AreShiftSteps, IsSum, AreTerms, IsProduct, AreFactors, IsUnary, IsPostfix, AreSuffixes, IsSuffix, IsOperand, IsPrimary, IsIsTree, IsIsTest, IsAgainstWhat, MoreNames, AreExprs, MoreExprs, AreArguments, MoreArguments, IsArgument, IsSymbol, AreTemplateArguments, IsSingle, IsType, IsBareType, IsBase, MoreSymbols, IsPlainBase, AreBrackets}
 use Rattle.dc_grammar.specs.Readers.{chain, compared, chosen, assigned, or_empty, between, length_of}
 use Rattle.dc_grammar.proofs.Good.{Pair, Marked}
 use Rattle.dc_grammar.proofs.Lists.{Maybe, Many}
@@ -168,7 +171,7 @@ abbrev pub FLength : Tokens → Suffix → Type 0
 FLength = Or FLengthIndex FLengthCall
 
 abbrev pub FNewParts : Tokens → List Suffix → Type 0
-FNewParts = Image (λ z. z.0 ++ z.1.0 ∷ z.1.1) (Pair (Many FSlice) (Pair IsLength (Many IsSuffix)))
+FNewParts = Image (λ z. z.0 ++ z.1.0 ∷ z.1.1) (Pair (Many FSlice) (Pair FLength (Many IsSuffix)))
 
 abbrev pub FNew : Tokens → Expr → Type 0
 FNew = Placed (λ at z. expr at (e.New z.1.0 z.1.1)) (Pair (Marked k.New) (Pair IsBareType FNewParts))
@@ -640,28 +643,117 @@ suffixes_back : (ts : Tokens) (xs : List Suffix) → AreSuffixes ts xs → Many 
 suffixes_back ts xs g.no_suffixes = refl
 suffixes_back ts xs (g.suffixes {w1 = w1} {w2 = w2} {ts = ss} h c) = (w1, w2, refl, h, suffixes_back w2 ss c)
 
-slices_into : (ts : Tokens) (xs : List Suffix) → Many FSlice ts xs → AreSlices ts xs
-slices_into ts [] eq = rw eq g.no_slices
-slices_into ts (x ∷ xs) (l, r, parts, (z, p, eq), others) = rw (parts, p.parts, append_assoc, ← eq) (g.slices p.one p.two (slices_into r xs others))
+-- ---- behind a `new`: `[]`s, the length and what follows, against suffixes of which one is the length
 
-slices_back : (ts : Tokens) (xs : List Suffix) → AreSlices ts xs → Many FSlice ts xs
-slices_back ts xs g.no_slices = refl
-slices_back ts xs (g.slices {w1 = w1} {w2 = w2} {w3 = w3} {ts = ss} m1 m2 c) = (w1 ++ w2, w3, sym (append_assoc w1 w2 w3), ((tt, tt), pair w1 w2 m1 m2, refl), slices_back w3 ss c)
+slice_suffix : (w : Tokens) (x : Suffix) → FSlice w x → IsSuffix w x
+slice_suffix w x (z, p, eq) = rw (p.parts, ← eq) (g.all p.one p.two)
 
-pub length_into : (ts : Tokens) (x : Suffix) → FLength ts x → IsLength ts x
-length_into ts x (inl (z, p, eq)) = rw (p.parts, p.two.parts, ← eq) (g.length_index p.one p.two.one p.two.two)
-length_into ts x (inr (z, p, eq)) = rw (p.parts, p.two.parts, ← eq) (g.length_call p.one p.two.one p.two.two)
+one_expr : (w : Tokens) (x : Expr) → IsExpr w x → AreExprs w (x ∷ [])
+one_expr w x h = subst (λ (v : Tokens). AreExprs v (x ∷ [])) (append_nil w) (g.exprs h g.end_exprs)
 
-pub length_back : (ts : Tokens) (x : Suffix) → IsLength ts x → FLength ts x
-length_back ts x (g.length_index {w1 = w1} {w2 = w2} {w3 = w3} {x = y} m1 h m3) = inl ((tt, (y, tt)), pair w1 (w2 ++ w3) m1 (pair w2 w3 h m3), refl)
-length_back ts x (g.length_call {w1 = w1} {w2 = w2} {w3 = w3} {x = y} m1 h m3) = inr ((tt, (y, tt)), pair w1 (w2 ++ w3) m1 (pair w2 w3 h m3), refl)
+length_suffix : (w : Tokens) (x : Suffix) → FLength w x → IsSuffix w x
+length_suffix w x (inl (z, p, eq)) = rw (p.parts, p.two.parts, ← eq) (g.index p.one p.two.one p.two.two)
+length_suffix w x (inr (z, p, eq)) = rw (p.parts, p.two.parts, ← eq) (g.call p.one (one_expr p.two.left z.1.0 p.two.one) p.two.two)
+
+slices_suffixes : (w v : Tokens) (ss us : List Suffix) → Many FSlice w ss → AreSuffixes v us → AreSuffixes (w ++ v) (ss ++ us)
+slices_suffixes w v [] us eq c = rw eq c
+slices_suffixes w v (x ∷ ss) us (l, r, parts, one, others) c = rw (parts, append_assoc l r v) (g.suffixes (slice_suffix l x one) (slices_suffixes r v ss us others c))
+
+abbrev Makes : List Suffix → Type 0
+Makes us = (y : NewArray) × (new_array us ≡ Some y)
+
+abbrev new_at : Form → List Suffix → Option NewArray
+new_at f us = first_of (called_at f us (called us)) (counted_at f us (counted us))
+
+at_form : (f : Form) (us : List Suffix) → new_array (roll-Suffix f ∷ us) ≡ new_at f us
+unfolding new_array
+at_form f us = ap (λ (g : Form). new_at g us) (out-roll-Suffix f)
+
+index_makes : (n : Expr) (us : List Suffix) → Makes (s.Index n ∷ us)
+unfolding roll-Suffix denote.Hole.Carrier.roll new_array
+index_makes n us = let m = go (called us) in (m.0, at_form (Suffix-F.Index n) us ∙ m.1)
+  where
+    go : (r : Option NewArray) → (y : NewArray) × (first_of (with_bracket (d.Fixed n) r) (Some (record { brackets = d.Slice ∷ []; count = n; behind = us })) ≡ Some y)
+    go (Some r) = (_, refl)
+    go None = (_, refl)
+
+call_makes : (n : Expr) (us : List Suffix) → Makes (s.Call (n ∷ []) ∷ us)
+unfolding roll-Suffix denote.Hole.Carrier.roll new_array
+call_makes n us = (record { brackets = []; count = n; behind = us }, at_form (Suffix-F.Call (n ∷ [])) us)
+
+length_makes : (w : Tokens) (x : Suffix) (us : List Suffix) → FLength w x → Makes (x ∷ us)
+length_makes w x us (inl (z, p, eq)) = rw (← eq) (index_makes z.1.0 us)
+length_makes w x us (inr (z, p, eq)) = rw (← eq) (call_makes z.1.0 us)
+
+slice_makes : (us : List Suffix) → Makes us → Makes (s.All ∷ us)
+unfolding roll-Suffix denote.Hole.Carrier.roll new_array
+slice_makes us m = let more = go (called us) (counted us) m.0 m.1 in (more.0, at_form Suffix-F.All us ∙ more.1)
+  where
+    go : (a b : Option NewArray) (y : NewArray) → first_of a b ≡ Some y → (y' : NewArray) × (first_of (with_bracket d.Slice a) (with_bracket d.Slice b) ≡ Some y')
+    go (Some a) b y e = (_, refl)
+    go None (Some b) y e = (_, refl)
+    go None None y e = absurd cc
+
+slices_make : (w : Tokens) (ss us : List Suffix) → Many FSlice w ss → Makes us → Makes (ss ++ us)
+slices_make w [] us eq m = m
+slices_make w (x ∷ ss) us (l, r, parts, (z, p, eq), others) m = rw (← eq) (slice_makes (ss ++ us) (slices_make r ss us others m))
 
 new_into : (ts : Tokens) (x : Expr) → FNew ts x → IsPostfix ts x
 new_into ts x (z, p, eq) =
     let n = p.two.two in
     let q = n.1 in
     let same : expr (start_of ts) (e.New z.1.0 (n.0.0 ++ n.0.1.0 ∷ n.0.1.1)) ≡ x = ap (λ (v : List Suffix). expr (start_of ts) (e.New z.1.0 v)) n.2 ∙ eq in
-    rw (← same, p.parts, p.two.parts, q.parts, q.two.parts) (g.new p.one p.two.one (slices_into q.left n.0.0 q.one) q.two.one (suffixes_into q.two.right n.0.1.1 q.two.two))
+    let after = g.suffixes (length_suffix q.two.left n.0.1.0 q.two.one) (suffixes_into q.two.right n.0.1.1 q.two.two) in
+    let all = slices_suffixes q.left (q.two.left ++ q.two.right) n.0.0 (n.0.1.0 ∷ n.0.1.1) q.one after in
+    let made = slices_make q.left n.0.0 (n.0.1.0 ∷ n.0.1.1) q.one (length_makes q.two.left n.0.1.0 n.0.1.1 q.two.one) in
+    rw (← same, p.parts, p.two.parts, q.parts, q.two.parts) (g.new p.one p.two.one all made.1)
+
+on_slice : (v1 v2 w : Tokens) (us : List Suffix) → Mark k.LeftBracket v1 → Mark k.RightBracket v2 → FNewParts w us → FNewParts ((v1 ++ v2) ++ w) (s.All ∷ us)
+on_slice v1 v2 w us m1 m2 (n, q, eq) = (
+  (s.All ∷ n.0, n.1),
+  record {
+    left = (v1 ++ v2) ++ q.left;
+    right = q.right;
+    parts = ap (λ (t : Tokens). (v1 ++ v2) ++ t) q.parts ∙ sym (append_assoc (v1 ++ v2) q.left q.right);
+    one = (v1 ++ v2, q.left, refl, ((tt, tt), pair v1 v2 m1 m2, refl), q.one);
+    two = q.two;
+  },
+  ap (λ (t : List Suffix). s.All ∷ t) eq,
+)
+
+at_length : (w v : Tokens) (l : Suffix) (us : List Suffix) → FLength w l → AreSuffixes v us → FNewParts (w ++ v) (l ∷ us)
+at_length w v l us h c = (([], (l, us)), record { left = []; right = w ++ v; parts = refl; one = refl; two = pair w v h (suffixes_back v us c) }, refl)
+
+more_makes : (us : List Suffix) → Makes (s.All ∷ us) → Makes us
+unfolding roll-Suffix denote.Hole.Carrier.roll new_array
+more_makes us m = go (called us) (counted us) m.0 (sym (at_form Suffix-F.All us) ∙ m.1)
+  where
+    go : (a b : Option NewArray) (y : NewArray) → first_of (with_bracket d.Slice a) (with_bracket d.Slice b) ≡ Some y → (y' : NewArray) × (first_of a b ≡ Some y')
+    go (Some a) b y e = (_, refl)
+    go None (Some b) y e = (_, refl)
+    go None None y e = absurd cc
+
+makes_none : (f : Form) (us : List Suffix) → new_at f us ≡ None → Makes (roll-Suffix f ∷ us) → ⊥
+makes_none f us none m = let e : None ≡ Some m.0 = sym none ∙ sym (at_form f us) ∙ m.1 in cc
+
+call_back : (v1 v2 v3 w : Tokens) (xs : List Expr) (us : List Suffix) → Mark k.LeftParen v1 → AreExprs v2 xs → Mark k.RightParen v3 → AreSuffixes w us → Makes (s.Call xs ∷ us) → FNewParts ((v1 ++ (v2 ++ v3)) ++ w) (s.Call xs ∷ us)
+unfolding roll-Suffix denote.Hole.Carrier.roll
+call_back v1 v2 v3 w xs us m1 g.no_exprs m3 c m = absurd (makes_none (Suffix-F.Call []) us refl m)
+call_back v1 v2 v3 w xs us m1 (g.exprs {w1 = u1} {x = x} h g.end_exprs) m3 c m =
+    at_length (v1 ++ ((u1 ++ []) ++ v3)) w (s.Call (x ∷ [])) us (inr ((tt, (x, tt)), pair v1 ((u1 ++ []) ++ v3) m1 (pair (u1 ++ []) v3 (subst (λ (w : Tokens). IsExpr w x) (sym (append_nil u1)) h) m3), refl)) c
+call_back v1 v2 v3 w xs us m1 (g.exprs {x = x} h (g.more_exprs {x = y} {xs = ys} n i others)) m3 c m = absurd (makes_none (Suffix-F.Call (x ∷ y ∷ ys)) us refl m)
+
+new_parts_back : (w : Tokens) (us : List Suffix) → AreSuffixes w us → Makes us → FNewParts w us
+unfolding roll-Suffix denote.Hole.Carrier.roll new_array
+new_parts_back w us g.no_suffixes m = let e : None ≡ Some m.0 = m.1 in absurd cc
+new_parts_back w us (g.suffixes {ts = vs} (g.member {y = y} n h) c) m = absurd (makes_none (Suffix-F.Member y) vs refl m)
+new_parts_back w us (g.suffixes {w2 = w2} {ts = vs} (g.call {w1 = v1} {w2 = v2} {w3 = v3} {xs = xs} m1 h m3) c) m = call_back v1 v2 v3 w2 xs vs m1 h m3 c m
+new_parts_back w us (g.suffixes {w2 = w2} {ts = vs} (g.all {w1 = v1} {w2 = v2} m1 m2) c) m = on_slice v1 v2 w2 vs m1 m2 (new_parts_back w2 vs c (more_makes vs m))
+new_parts_back w us (g.suffixes {w2 = w2} {ts = vs} (g.index {w1 = v1} {w2 = v2} {w3 = v3} {x = x} m1 h m3) c) m =
+    at_length (v1 ++ (v2 ++ v3)) w2 (s.Index x) vs (inl ((tt, (x, tt)), pair v1 (v2 ++ v3) m1 (pair v2 v3 h m3), refl)) c
+new_parts_back w us (g.suffixes {ts = vs} (g.slice {x = x} {y = y} m1 h m3 i m5) c) m = absurd (makes_none (Suffix-F.«Suffix::Slice» x y) vs refl m)
+new_parts_back w us (g.suffixes {ts = vs} (g.increment n) c) m = absurd (makes_none Suffix-F.Increment vs refl m)
+new_parts_back w us (g.suffixes {ts = vs} (g.decrement n) c) m = absurd (makes_none Suffix-F.Decrement vs refl m)
 
 pub postfix_into : (ts : Tokens) (x : Expr) → FPostfix ts x → IsPostfix ts x
 postfix_into ts x (inl h) = new_into ts x h
@@ -671,8 +763,8 @@ postfix_into ts x (inr ((y, t ∷ ss), p, eq)) = rw (← eq, p.parts) (g.postfix
 pub postfix_back : (ts : Tokens) (x : Expr) → IsPostfix ts x → FPostfix ts x
 postfix_back ts x (g.an_operand h) = inr ((x, []), record { left = ts; right = []; parts = sym (append_nil ts); one = h; two = refl }, refl)
 postfix_back ts x (g.postfix {w1 = w1} {w2 = w2} {x = y} {t = t} {ts = ss} h c) = inr ((y, t ∷ ss), pair w1 w2 h (suffixes_back w2 (t ∷ ss) c), refl)
-postfix_back ts x (g.new {w1 = w1} {w2 = w2} {w3 = w3} {w4 = w4} {w5 = w5} {t = t} {ss = ss} {ts = us} {l = l} m h c q f) =
-    inl ((tt, (t, ss ++ l ∷ us)), pair w1 (w2 ++ (w3 ++ (w4 ++ w5))) m (pair w2 (w3 ++ (w4 ++ w5)) h ((ss, (l, us)), pair w3 (w4 ++ w5) (slices_back w3 ss c) (pair w4 w5 q (suffixes_back w5 us f)), refl)), refl)
+postfix_back ts x (g.new {w1 = w1} {w2 = w2} {w3 = w3} {t = t} {ts = us} {y = y} m h c made) =
+    inl ((tt, (t, us)), pair w1 (w2 ++ w3) m (pair w2 w3 h (new_parts_back w3 us c (y, made))), refl)
 
 pub unary_into : (ts : Tokens) (x : Expr) → FUnary ts x → IsUnary ts x
 unary_into ts x (inl (z, p, eq)) = rw (← eq, p.parts) (g.prefix p.one p.two)

@@ -1,29 +1,30 @@
 pub mod Good
-pub mod Lists
-pub mod Choices
-pub mod Tools
+mod Lists
+mod Choices
+mod Tools
 pub mod Turns
-pub mod Forms
-pub mod Edges
-pub mod Dotted
-pub mod Balance
-pub mod Arguments
-pub mod Rules
-pub mod Shapes
+mod Forms
+mod Edges
+mod Dotted
+mod Balance
+mod Arguments
+mod Rules
+mod Shapes
 pub mod Laws
-pub mod PartRules
-pub mod Meanings
-pub mod Tables
-pub mod TypeFirst
-pub mod NamedRules
-pub mod Open
-pub mod Fronts
-pub mod StmtRules
-pub mod StmtLevels
-pub mod DeclRules
-pub mod DeclLevels
+mod PartRules
+mod Meanings
+mod Tables
+mod TypeFirst
+mod NamedRules
+mod Open
+mod Fronts
+mod StmtRules
+mod StmtLevels
+mod DeclRules
+mod DeclLevels
 pub mod Wholes
-pub mod ReadAt
-pub mod ChainTurns
-pub mod Past
-pub mod Examples
+mod ReadAt
+mod ChainTurns
+mod Past
+mod Examples
+mod News

@@ -24,7 +24,7 @@ use Rattle.dc_grammar.specs.Shapes as s
 use Rattle.dc_grammar.specs.Shapes.{Optional, Several, After, Listed, Perhaps, Flag}
 use Rattle.dc_grammar.specs.Parts as g
 use Rattle.dc_grammar.specs.Parts.{IsTemplateParameter, AreTemplateParameters, IsMember, IsEnum, IsConstant, IsAlias, IsOne, IsKind, IsVariable, IsParameter, AreParameters, IsForStart}
-use Rattle.dc_grammar.specs.Reading.{Outcome, either, ◌<$>◌}
+use Rattle.dc_grammar.specs.Reading.{Outcome, either, ◌<$>◌, from_start}
 use Rattle.dc_grammar.specs.PartReaders as spec
 use Rattle.dc_grammar.specs.PartReaders.{after, next, listed, some_listed, flag}
 use Rattle.dc_grammar.proofs.Good.{Good, Holds, Marked, Pair, none, or, is, given_by, mark_good, means_good}
@@ -536,6 +536,9 @@ same_close w v r t xs ys (g.template_parameters {w1 = w1} {w2 = w2} {w3 = w3} h1
 
 -- ---- what a `for` begins with
 
+abbrev pub FForVariable : Tokens → ForStart → Type 0
+FForVariable = Placed start.Variable IsVariable
+
 abbrev pub FForExpr : Tokens → ForStart → Type 0
 FForExpr = Image (λ z. start.Expr z.0) (Pair (Optional IsExpr) (Marked k.Semicolon))
 
@@ -551,11 +554,11 @@ for_not front y rest (z, p, eq) = go z.0 p.left p.one p.parts
     go x w s.absent parts = rw parts (refused (variable_good 0) (p.right ++ rest) (rw (p.two.alone, p.two.is) refl))
     go x w (s.present {x = u} h) parts = rw parts (variable_not w p.right u rest h p.two)
 
-for_into : (ts : Tokens) (x : ForStart) → Or (Image start.Variable IsVariable) FForExpr ts x → IsForStart ts x
+for_into : (ts : Tokens) (x : ForStart) → Or FForVariable FForExpr ts x → IsForStart ts x
 for_into ts x (inl (y, h, eq)) = rw (← eq) (g.for_variable h)
 for_into ts x (inr (z, p, eq)) = rw (← eq, p.parts) (g.for_expr p.one p.two)
 
-for_back : (ts : Tokens) (x : ForStart) → IsForStart ts x → Or (Image start.Variable IsVariable) FForExpr ts x
+for_back : (ts : Tokens) (x : ForStart) → IsForStart ts x → Or FForVariable FForExpr ts x
 for_back ts x (g.for_variable {v = y} h) = inl (y, h, refl)
 for_back ts x (g.for_expr {w1 = w1} {w2 = w2} {x = y} h m) = inr ((y, tt), pair w1 w2 h m, refl)
 
@@ -564,5 +567,5 @@ begins_for_start = or begins_variable (or begins_expr (is k.Semicolon))
 
 pub for_start_good : (n : ℕ) → Good n none begins_for_start IsForStart spec.for_start
 unfolding spec.for_start same_terminal
-for_start_good n = rule (prefer (image start.Variable (variable_good n)) (for_expr_good n) refl (λ front y rest h. over_none none ((start.Variable <$> spec.variable_read) (front ++ rest)) rest (rw (for_not front y rest h) refl)))
+for_start_good n = rule (prefer (placed start.Variable (variable_good n)) (for_expr_good n) refl (λ front y rest h. over_none none (from_start start.Variable spec.variable_read (front ++ rest)) rest (rw (for_not front y rest h) refl)))
     none begins_for_start IsForStart spec.for_start (λ ts. refl) for_into for_back refl refl

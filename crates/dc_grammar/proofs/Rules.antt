@@ -1,5 +1,5 @@
 -- Each rule of the grammar is read, from symbols up to whole expressions.
-use Rattle.std.proofs.Common.{◌≡◌, ℕ, zero, suc, ◌-◌, ◌≤◌, Bool, false, List, [], ◌∷◌, ◌++◌, length, None, refl, sym, ap, ◌∙◌, append_assoc, arith}
+use Rattle.std.proofs.Common.{◌≡◌, ℕ, zero, suc, ◌-◌, ◌≤◌, Bool, false, List, [], ◌∷◌, ◌++◌, length, None, refl, sym, ap, ◌∙◌, append_assoc, arith, inl, inr}
 use Rattle.dc_ast.specs.declared.expression.Expr.{Expr}
 use Rattle.dc_ast.specs.declared.expression.ExprKind.TheVariants as e
 use Rattle.dc_ast.specs.declared.expression.Suffix.{Suffix}
@@ -11,7 +11,7 @@ use Rattle.dc_grammar.specs.declared.terminal.Terminal.TheVariants as k
 use Rattle.dc_grammar.specs.Terminals.{Tokens, terminal_of, same_terminal, unary_operator, multiplies, adds, shifts, compares, bit_and_operator, bit_xor_operator, bit_or_operator, and_operator, or_operator, assign_operator, is_relation}
 use Rattle.dc_grammar.specs.Trees.{expr, step, symbol, type_tree, is_tree, is_test}
 use Rattle.dc_grammar.specs.Grammar as g
-use Rattle.dc_grammar.specs.Grammar.{Mark, Named, Means, Id, Word, IsExpr, IsConditional, IsOr, AreOrs, IsAnd, AreAnds, IsBitOr, AreBitOrs, IsBitXor, AreBitXors, IsBitAnd, AreBitAnds, IsComparison, IsShift, AreShiftSteps, IsSum, AreTerms, IsProduct, AreFactors, IsUnary, IsPostfix, AreSlices, IsLength, AreSuffixes, IsSuffix, IsOperand, IsPrimary, IsIsTree, IsIsTest, IsAgainstWhat, MoreNames, AreExprs, MoreExprs, AreArguments, MoreArguments, IsArgument, IsSymbol, AreTemplateArguments, IsSingle, IsType, IsBareType, IsBase, MoreSymbols, IsPlainBase, AreBrackets}
+use Rattle.dc_grammar.specs.Grammar.{Mark, Named, Means, Id, Word, IsExpr, IsConditional, IsOr, AreOrs, IsAnd, AreAnds, IsBitOr, AreBitOrs, IsBitXor, AreBitXors, IsBitAnd, AreBitAnds, IsComparison, IsShift, AreShiftSteps, IsSum, AreTerms, IsProduct, AreFactors, IsUnary, IsPostfix, AreSuffixes, IsSuffix, IsOperand, IsPrimary, IsIsTree, IsIsTest, IsAgainstWhat, MoreNames, AreExprs, MoreExprs, AreArguments, MoreArguments, IsArgument, IsSymbol, AreTemplateArguments, IsSingle, IsType, IsBareType, IsBase, MoreSymbols, IsPlainBase, AreBrackets}
 use Rattle.dc_grammar.specs.declared.level.Level.{Level}
 use Rattle.dc_grammar.specs.Reading.{Reader, mark, either, ◌<$>◌, nothing}
 use Rattle.dc_grammar.specs.Readers as spec
@@ -20,7 +20,7 @@ use Rattle.dc_grammar.proofs.Good.{Good, Loose, none, or, Pair, mark_good, means
 use Rattle.dc_grammar.proofs.Lists.{Many, loose_maybe, refused, many_then}
 use Rattle.dc_grammar.proofs.Tools.{pair, seq, seq_loose, loose_seq, repeated, one_of, narrow, Image, image, loose_image, rule, lower, or_none, Placed, placed}
 use Rattle.dc_grammar.proofs.Tools as tools
-use Rattle.dc_grammar.proofs.Forms.{FNext, FList, FSome, FAfterDot, FNamedBase, FInParens, FParen, FArray, FTypeOfProperty, FMixin, FIsExpr, FTraits, FAssert, FMember, FCall, FBracketed, FSlice, FLengthIndex, FLengthCall, FNewParts, FNew, FPlainPostfix, FPrefix, FCast, FStep, product_into, product_back, sum_into, sum_back, shift_into, shift_back, bit_and_into, bit_and_back, bit_xor_into, bit_xor_back, bit_or_into, bit_or_back, and_into, and_back, or_into, or_back, comparison_into, comparison_back, conditional_into, conditional_back, expr_into, expr_back, type_into, type_back, bare_type_into, bare_type_back, base_into, base_back, symbol_into, symbol_back, template_arguments_into, template_arguments_back, against_into, against_back, is_test_into, is_test_back, is_tree_into, is_tree_back, primary_into, primary_back, operand_into, operand_back, suffix_into, suffix_back, length_into, length_back, postfix_into, postfix_back, unary_into, unary_back}
+use Rattle.dc_grammar.proofs.Forms.{FNext, FList, FSome, FAfterDot, FNamedBase, FInParens, FParen, FArray, FTypeOfProperty, FMixin, FIsExpr, FTraits, FAssert, FMember, FCall, FBracketed, FSlice, FLengthIndex, FLengthCall, FLength, FNewParts, FNew, FPlainPostfix, FPrefix, FCast, FStep, product_into, product_back, sum_into, sum_back, shift_into, shift_back, bit_and_into, bit_and_back, bit_xor_into, bit_xor_back, bit_or_into, bit_or_back, and_into, and_back, or_into, or_back, comparison_into, comparison_back, conditional_into, conditional_back, expr_into, expr_back, type_into, type_back, bare_type_into, bare_type_back, base_into, base_back, symbol_into, symbol_back, template_arguments_into, template_arguments_back, against_into, against_back, is_test_into, is_test_back, is_tree_into, is_tree_back, primary_into, primary_back, operand_into, operand_back, suffix_into, suffix_back, postfix_into, postfix_back, unary_into, unary_back}
 use Rattle.dc_grammar.proofs.Edges.{begins_primary, begins_postfix, begins_expr, begins_suffix, begins_type, begins_argument, begins_template_arguments, after_postfix, after_type, after_is_tree, after_product, after_sum, after_shift, after_comparison, after_bit_and, after_bit_xor, after_bit_or, after_and, after_or, after_conditional, after_expr}
 use Rattle.dc_grammar.proofs.Dotted.{Dotted, dotted_expr, dotted_conditional, dotted_unary, begins_of}
 use Rattle.dc_grammar.proofs.Arguments.{Inner, id_good, word_good, property_good, next_name_good, one_value_good, one_basic_good, bracket_good, plain_base_good, argument_good}
@@ -238,24 +238,31 @@ module _ (n : ℕ) (inner : Level → Reader Expr) (i : Inner n inner) where
       go k.LeftBracket eq = rw eq (sym (or_none _))
       go _ eq = rw eq refl
 
-  length_part_good : Good n none (or (is k.LeftBracket) (is k.LeftParen)) IsLength (spec.length_part inner)
+  length_part_good : Good n none (or (is k.LeftBracket) (is k.LeftParen)) FLength (spec.length_part inner)
   unfolding same_terminal
-  length_part_good = rule (one_of length_index_good length_call_good refl) none (or (is k.LeftBracket) (is k.LeftParen)) IsLength (spec.length_part inner) length_part_same length_into length_back refl refl
+  length_part_good = rule (one_of length_index_good length_call_good refl) none (or (is k.LeftBracket) (is k.LeftParen)) FLength (spec.length_part inner) length_part_same (λ ts x h. h) (λ ts x h. h) refl refl
 
   -- no `[]` stands where the length does
-  not_slice : (w v : Tokens) (y : Suffix) → IsLength w y → spec.slice_part (w ++ v) ≡ None
+  not_index : (w1 w2 w3 v : Tokens) (x : Expr) → Mark k.LeftBracket w1 → IsExpr w2 x → spec.slice_part ((w1 ++ (w2 ++ w3)) ++ v) ≡ None
   unfolding spec.slice_part same_terminal
-  not_slice w v y (g.length_index {w1 = w1} {w2 = w2} {w3 = w3} {x = x} m h c) =
+  not_index w1 w2 w3 v x m h =
       let d = i.whole.begins w2 x h in
       let off : same_terminal (terminal_of d.head) k.RightBracket ≡ false = tools.apart_from begins_expr (is k.RightBracket) refl (terminal_of d.head) d.kind in
       rw (m.alone, m.is, d.parts, off) refl
-  not_slice w v y (g.length_call {w1 = w1} {w2 = w2} {w3 = w3} m h c) = rw (m.alone, m.is) refl
+
+  not_call : (w1 w2 v : Tokens) → Mark k.LeftParen w1 → spec.slice_part ((w1 ++ w2) ++ v) ≡ None
+  unfolding spec.slice_part same_terminal
+  not_call w1 w2 v m = rw (m.alone, m.is) refl
+
+  not_slice : (w v : Tokens) (y : Suffix) → FLength w y → spec.slice_part (w ++ v) ≡ None
+  not_slice w v y (inl (z, p, eq)) = ap (λ (ts : Tokens). spec.slice_part (ts ++ v)) (p.parts ∙ ap (λ (ts : Tokens). p.left ++ ts) p.two.parts) ∙ not_index p.left p.two.left p.two.right v z.1.0 p.one p.two.one
+  not_slice w v y (inr (z, p, eq)) = ap (λ (ts : Tokens). spec.slice_part (ts ++ v)) p.parts ∙ not_call p.left p.right v p.one
 
   new_parts_good : Good n after_postfix (or (is k.LeftBracket) (is k.LeftParen)) FNewParts (spec.new_parts inner)
   unfolding spec.new_parts same_terminal
   new_parts_good = narrow (image (λ z. z.0 ++ z.1.0 ∷ z.1.1) (many_then slice_part_good (repeated slice_part_good refl) (seq_loose length_part_good (repeated suffix_good refl) (omega arith) refl) stops)) after_postfix (or (is k.LeftBracket) (is k.LeftParen)) refl refl
     where
-      stops : (front : Tokens) (y : Suffix × List Suffix) (rest : Tokens) → Pair IsLength (Many IsSuffix) front y → spec.slice_part (front ++ rest) ≡ None
+      stops : (front : Tokens) (y : Suffix × List Suffix) (rest : Tokens) → Pair FLength (Many IsSuffix) front y → spec.slice_part (front ++ rest) ≡ None
       stops front y rest p = ap (λ (ts : Tokens). spec.slice_part (ts ++ rest)) p.parts ∙ ap spec.slice_part (append_assoc p.left p.right rest) ∙ not_slice p.left (p.right ++ rest) y.0 p.one
 
   new_good : Good (suc n) after_postfix (is k.New) FNew (spec.new inner)

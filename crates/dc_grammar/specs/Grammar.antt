@@ -29,6 +29,7 @@ use Rattle.dc_ast.specs.declared.types.Bracket.TheVariants as d
 use Rattle.dc_grammar.specs.declared.terminal.Terminal.{Terminal}
 use Rattle.dc_grammar.specs.declared.terminal.Terminal.TheVariants as k
 use Rattle.dc_grammar.specs.Terminals.{Tokens, terminal_of, start_of, basic_type, unary_operator, multiplies, adds, shifts, compares, bit_and_operator, bit_xor_operator, bit_or_operator, and_operator, or_operator, assign_operator, is_relation}
+use Rattle.dc_grammar.specs.NewArrays.{NewArray, new_array}
 use Rattle.dc_grammar.specs.Trees.{expr, step, symbol, type_tree, is_tree, is_test, name_of, spelling_of}
 
 infixr 9 ◌·◌
@@ -166,18 +167,9 @@ mutual
   pub data IsPostfix : Tokens → Expr → Type 0 where
     an_operand : {w : Tokens} {x : Expr} → IsOperand w x → IsPostfix w x
     postfix : {w1 w2 : Tokens} {x : Expr} {t : Suffix} {ts : List Suffix} → IsOperand w1 x → AreSuffixes w2 (t ∷ ts) → IsPostfix (w1 · w2) (placed (w1 · w2) (e.Postfix x (t ∷ ts)))
-    new : {w1 w2 w3 w4 w5 : Tokens} {t : TypeTree} {ss ts : List Suffix} {l : Suffix} → Mark k.New w1 → IsBareType w2 t → AreSlices w3 ss → IsLength w4 l → AreSuffixes w5 ts
-        → IsPostfix (w1 · w2 · w3 · w4 · w5) (placed (w1 · w2 · w3 · w4 · w5) (e.New t (ss ++ l ∷ ts)))
-
-  -- the brackets `[]` behind a `new`
-  pub data AreSlices : Tokens → List Suffix → Type 0 where
-    no_slices : AreSlices [] []
-    slices : {w1 w2 w3 : Tokens} {ts : List Suffix} → Mark k.LeftBracket w1 → Mark k.RightBracket w2 → AreSlices w3 ts → AreSlices (w1 · w2 · w3) (s.All ∷ ts)
-
-  -- the length behind them, as `[n]` or `(n)`
-  pub data IsLength : Tokens → Suffix → Type 0 where
-    length_index : {w1 w2 w3 : Tokens} {x : Expr} → Mark k.LeftBracket w1 → IsExpr w2 x → Mark k.RightBracket w3 → IsLength (w1 · w2 · w3) (s.Index x)
-    length_call : {w1 w2 w3 : Tokens} {x : Expr} → Mark k.LeftParen w1 → IsExpr w2 x → Mark k.RightParen w3 → IsLength (w1 · w2 · w3) (s.Call (x ∷ []))
+    -- a base and suffixes of which one is the length
+    new : {w1 w2 w3 : Tokens} {t : TypeTree} {ts : List Suffix} {y : NewArray} → Mark k.New w1 → IsBareType w2 t → AreSuffixes w3 ts → new_array ts ≡ Some y
+        → IsPostfix (w1 · w2 · w3) (placed (w1 · w2 · w3) (e.New t ts))
 
   pub data AreSuffixes : Tokens → List Suffix → Type 0 where
     no_suffixes : AreSuffixes [] []

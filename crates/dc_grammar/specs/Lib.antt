@@ -4,6 +4,7 @@ pub mod Reading
 pub mod Trees
 pub mod MoreTrees
 pub mod Brackets
+pub mod NewArrays
 pub mod Grammar
 pub mod Shapes
 pub mod Parts

@@ -272,7 +272,7 @@ unfoldable pub for_expr : Reader ForStart
 for_expr = (λ z. start.Expr z.0) <$> both (maybe whole_expr) (mark k.Semicolon)
 
 unfoldable pub for_start : Reader ForStart
-for_start = either (start.Variable <$> variable_read) for_expr
+for_start = either (from_start start.Variable variable_read) for_expr
 
 unfoldable pub loop_read : Reader LoopName
 loop_read = (λ z. loop_name z.0 z.1.0 z.1.1) <$> both (flag k.Ref) maybe_typed

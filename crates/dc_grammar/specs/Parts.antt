@@ -138,7 +138,7 @@ pub data IsStaticAssert : Tokens → StaticAssert → Type 0 where
 
 -- what a `for` begins with: Variable | [Expr] ";"
 pub data IsForStart : Tokens → ForStart → Type 0 where
-  for_variable : {w : Tokens} {v : VariableTree} → IsVariable w v → IsForStart w (start.Variable v)
+  for_variable : {w : Tokens} {v : VariableTree} → IsVariable w v → IsForStart w (start.Variable (start_of w) v)
   for_expr : {w1 w2 : Tokens} {x : Option Expr} → Optional IsExpr w1 x → Mark k.Semicolon w2 → IsForStart (w1 · w2) (start.Expr x)
 
 -- Loop = ["ref"] [Type] Id

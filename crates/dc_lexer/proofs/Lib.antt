@@ -29,3 +29,4 @@ pub mod Braced
 pub mod Placed
 pub mod WholeText
 pub mod Needed
+pub mod OneName

@@ -15,5 +15,6 @@ mod string;
 mod tests;
 mod token_string;
 
+pub use name::is_name;
 pub use scan::{first_unreadable, laws, lex};
 pub use spaces::space_moves;

@@ -1,5 +1,5 @@
 // Names (D specification, "Lexical", "Identifiers").
-ghost use Rattle.std.specs.Prelude.{◌≡◌, ◌<◌, length, drop};
+ghost use Rattle.std.specs.Prelude.{◌≡◌, ◌<◌, ◌↔◌, IsTrue, length, drop};
 ghost use Rattle.dc_token.specs.Vocabulary.{is_xid_continue};
 ghost use Rattle.dc_token.specs.Bytes as bytes;
 ghost use Rattle.dc_token.specs.Names as names;
@@ -82,4 +82,11 @@ fn is_word(b: u8) -> bool
     ensures { result ≡ bytes.is_word b }
 {
     b.is_ascii_alphanumeric() || b == b'_'
+}
+
+/// Whether the bytes are one identifier, be it a keyword or not (D specification, "Lexical", "Identifiers").
+pub fn is_name(bytes: &[u8]) -> bool
+    ensures { IsTrue result ↔ names.IsName bytes.now }
+{
+    !bytes.is_empty() && name(bytes) == bytes.len()
 }

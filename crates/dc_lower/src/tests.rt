@@ -56,7 +56,7 @@ fn function(alloc: Global) -> Result<Body, NoMemory> {
         body: one,
     })?;
     turn.push(Stmt::If(place(alloc, 5)?, branches, other))?;
-    let mut stmts = Items::new(alloc);
+    let mut stmts = Children::new(alloc);
     stmts.push(Stmt::Declare(variable(alloc, 2)?, number(alloc, 4)?))?;
     stmts.push(Stmt::While(place(alloc, 6)?, read(alloc, 1)?, turn))?;
     stmts.push(Stmt::Return(place(alloc, 7)?, Some(read(alloc, 2)?)))?;
@@ -85,7 +85,7 @@ fn long_choice(alloc: Global, count: u32) -> Result<Body, NoMemory> {
         })?;
     }
     let mut f = function(alloc)?;
-    f.stmts = Items::new(alloc);
+    f.stmts = Children::new(alloc);
     f.stmts
         .push(Stmt::Declare(variable(alloc, 2)?, number(alloc, 4)?))?;
     f.stmts

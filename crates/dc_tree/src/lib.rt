@@ -2,6 +2,7 @@
 #![tactic(auto)]
 
 mod body;
+mod flow;
 mod laws;
 mod stmt;
 mod sums;
@@ -9,6 +10,7 @@ mod tree;
 mod weight;
 
 pub use body::{Bodies, Body, Starts};
+pub use flow::complete;
 pub use laws::ticks_bound;
 pub use stmt::{Branch, Stmt, Stmts};
 pub use sums::{Link, Literal, Sign, Sum, SumStmt, SumStmts, Term};

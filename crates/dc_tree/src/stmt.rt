@@ -1,6 +1,6 @@
 // Resolved statements.
 use crate::{Tree, Variable};
-use dc_types::{Items, Place};
+use dc_types::Place;
 use sqlite_items::Items as Children;
 
 /// A condition of an `if`, and the statements behind it.
@@ -27,4 +27,4 @@ pub enum Stmt {
     Return(Place, Option<Tree>),
 }
 
-pub type Stmts = Items<Stmt>;
+pub type Stmts = Children<Stmt>;

@@ -15,6 +15,10 @@ use Rattle.dc_types.specs.declared.event.TrapKind.{TrapKind}
 use Rattle.dc_types.specs.declared.event.TrapKind.TheVariants as trap_kind
 use Rattle.dc_types.specs.declared.event.Trap.{Trap}
 use Rattle.dc_types.specs.declared.event.Event.{Event}
+use Rattle.dc_types.specs.declared.event.Limits.{Limits}
+use Rattle.dc_types.specs.declared.event.CallCount.{CallCount}
+use Rattle.dc_types.specs.declared.event.ProbeState.{ProbeState}
+use Rattle.dc_types.specs.declared.event.ProbeState.TheVariants as states
 use Rattle.dc_types.specs.declared.event.Event.TheVariants as events
 use Rattle.dc_types.specs.declared.question.Asked.{Asked}
 use Rattle.dc_types.specs.declared.question.Asked.TheVariants as askeds
@@ -49,8 +53,16 @@ use Rattle.dc_types.specs.contracts.event.EventPartialEq.TheImpl as event_eq
 use Rattle.dc_types.specs.contracts.range.RangePartialEq.TheImpl as range_eq
 use Rattle.dc_types.specs.contracts.value.SpanPartialEq.TheImpl as span_eq
 use Rattle.dc_types.specs.contracts.value.SpotPartialEq.TheImpl as spot_eq
+use Rattle.dc_types.specs.contracts.ty.TyPartialEq.TheImpl as ty_eq
+use Rattle.dc_types.specs.contracts.constant.CTreePartialEq.TheImpl as tree_eq
+use Rattle.dc_types.specs.contracts.pattern.PatternPartialEq.TheImpl as pattern_eq
+use Rattle.dc_types.specs.contracts.value.ValuePartialEq.TheImpl as value_eq
+use Rattle.dc_types.specs.contracts.range.SourcePartialEq.TheImpl as source_eq
+use Rattle.dc_types.specs.contracts.event.CallCountPartialEq.TheImpl as call_count_eq
+use Rattle.dc_types.specs.contracts.event.ProbeStatePartialEq.TheImpl as probe_state_eq
+use Rattle.dc_types.specs.contracts.event.LimitsPartialEq.TheImpl as limits_eq
 use Rattle.dc_types.specs.Same as same
-use Rattle.dc_types.specs.Exact.{both-Decides, three-Decides, kind-Decides, place-Decides, ty-Decides, tree-Decides, pattern-Decides, span-Decides, range-Decides, numbers-Decides}
+use Rattle.dc_types.specs.Exact.{both-Decides, three-Decides, kind-Decides, place-Decides, ty-Decides, tree-Decides, pattern-Decides, value-Decides, source-Decides, span-Decides, range-Decides, numbers-Decides}
 
 -- the test answers true exactly for equal values
 abbrev pub IsExact : {A : Type 0} → (A → A → Bool) → Type 0
@@ -190,6 +202,64 @@ events_ (events.Turn a) (events.Enter b) = (λ h. cc, λ e. cc)
 events_ (events.Turn a) (events.Print b) = (λ h. cc, λ e. cc)
 events_ (events.Print a) (events.Enter b) = (λ h. cc, λ e. cc)
 events_ (events.Print a) (events.Turn b) = (λ h. cc, λ e. cc)
+
+pub call_counts : IsExact ((call_count_eq.ghosts).eq)
+call_counts a b = both-Decides (λ p n. record { place = p; number = n }) (λ c. c.place) (λ c. c.number) (λ c. refl) a b (place_test a.place b.place) (a.number == b.number) (places a.place b.place) (Decides-eqb a.number b.number)
+
+place_lists : IsExact (pointwise place_test)
+place_lists = of_lists place_test places
+
+pub probe_states : IsExact ((probe_state_eq.ghosts).eq)
+probe_states (states.Covered a c) (states.Covered b d) =
+    Decides-like (pointwise place_test a b && pointwise place_test c d) (λ h. ap (λ x. states.Covered x c) h.0 ∙ ap (λ x. states.Covered b x) h.1) (λ e. (cc, cc))
+    (Decides-and (pointwise place_test a b) (pointwise place_test c d) (place_lists a b) (place_lists c d))
+probe_states (states.Called a) (states.Called b) =
+    Decides-like (pointwise ((call_count_eq.ghosts).eq) a b) (λ e. ap states.Called e) (λ e. cc) (of_lists ((call_count_eq.ghosts).eq) call_counts a b)
+probe_states (states.First m a) (states.First n b) =
+    Decides-like (m == n && pointwise place_test a b) (λ h. ap (λ x. states.First x a) h.0 ∙ ap (λ x. states.First n x) h.1) (λ e. (cc, cc))
+    (Decides-and (m == n) (pointwise place_test a b) (Decides-eqb m n) (place_lists a b))
+probe_states (states.Covered a c) (states.Called b) = (λ h. cc, λ e. cc)
+probe_states (states.Covered a c) (states.First n b) = (λ h. cc, λ e. cc)
+probe_states (states.Called a) (states.Covered b d) = (λ h. cc, λ e. cc)
+probe_states (states.Called a) (states.First n b) = (λ h. cc, λ e. cc)
+probe_states (states.First m a) (states.Covered b d) = (λ h. cc, λ e. cc)
+probe_states (states.First m a) (states.Called b) = (λ h. cc, λ e. cc)
+
+-- ticks and cells, and depth and stack
+limits_by : (a b : Limits) → (a.ticks ≡ b.ticks) × ((a.cells ≡ b.cells) × ((a.depth ≡ b.depth) × (a.stack ≡ b.stack))) → a ≡ b
+limits_by a b h =
+    let ticks : ℕ → Limits = λ x. record { ticks = x; cells = a.cells; depth = a.depth; stack = a.stack } in
+    let cells : ℕ → Limits = λ x. record { ticks = b.ticks; cells = x; depth = a.depth; stack = a.stack } in
+    let depth : ℕ → Limits = λ x. record { ticks = b.ticks; cells = b.cells; depth = x; stack = a.stack } in
+    let stack : ℕ → Limits = λ x. record { ticks = b.ticks; cells = b.cells; depth = b.depth; stack = x } in
+    ap ticks h.0 ∙ ap cells h.1.0 ∙ ap depth h.1.1.0 ∙ ap stack h.1.1.1
+
+pub limits : IsExact ((limits_eq.ghosts).eq)
+limits a b =
+    let same_ticks = a.ticks == b.ticks in let same_cells = a.cells == b.cells in let same_depth = a.depth == b.depth in let same_stack = a.stack == b.stack in
+    Decides-like (same_ticks && (same_cells && (same_depth && same_stack)))
+    (λ h. limits_by a b h)
+    (λ e. (ap (λ l. l.ticks) e, (ap (λ l. l.cells) e, (ap (λ l. l.depth) e, ap (λ l. l.stack) e))))
+    (Decides-and same_ticks (same_cells && (same_depth && same_stack)) (Decides-eqb a.ticks b.ticks)
+    (Decides-and same_cells (same_depth && same_stack) (Decides-eqb a.cells b.cells) (Decides-and same_depth same_stack (Decides-eqb a.depth b.depth) (Decides-eqb a.stack b.stack))))
+
+pub types : IsExact ((ty_eq.ghosts).eq)
+types a b = ty-Decides a b
+
+pub trees : IsExact ((tree_eq.ghosts).eq)
+trees a b = tree-Decides a b
+
+pub patterns : IsExact ((pattern_eq.ghosts).eq)
+patterns a b = pattern-Decides a b
+
+pub values : IsExact ((value_eq.ghosts).eq)
+values a b = value-Decides a b
+
+pub sources : IsExact ((source_eq.ghosts).eq)
+sources a b = source-Decides a b
+
+pub step_laws : IsExact ((step_eq.ghosts).eq)
+step_laws = step-Decides
 
 pub ranges : IsExact ((range_eq.ghosts).eq)
 ranges a b = range-Decides a b

@@ -7,3 +7,4 @@ pub mod Starts
 pub mod KeyTexts
 pub mod KeyReading
 pub mod Equal
+pub mod Ordered

@@ -1,6 +1,6 @@
 // Laws of the plain data.
 ghost use Rattle.dc_types.specs.Equal.{IsExact};
-ghost use Rattle.dc_types.specs.Same as same;
+ghost use Rattle.dc_types.specs.Ordered.{StepOrder};
 ghost use Rattle.dc_types.specs.contracts.place.PlacePartialEq.TheImpl as place_eq;
 ghost use Rattle.dc_types.specs.contracts.constant.ConstPartialEq.TheImpl as const_eq;
 ghost use Rattle.dc_types.specs.contracts.arg.ArgPartialEq.TheImpl as arg_eq;
@@ -18,6 +18,15 @@ ghost use Rattle.dc_types.specs.contracts.event.EventPartialEq.TheImpl as event_
 ghost use Rattle.dc_types.specs.contracts.range.RangePartialEq.TheImpl as range_eq;
 ghost use Rattle.dc_types.specs.contracts.value.SpanPartialEq.TheImpl as span_eq;
 ghost use Rattle.dc_types.specs.contracts.value.SpotPartialEq.TheImpl as spot_eq;
+ghost use Rattle.dc_types.specs.contracts.ty.TyPartialEq.TheImpl as ty_eq;
+ghost use Rattle.dc_types.specs.contracts.constant.CTreePartialEq.TheImpl as tree_eq;
+ghost use Rattle.dc_types.specs.contracts.pattern.PatternPartialEq.TheImpl as pattern_eq;
+ghost use Rattle.dc_types.specs.contracts.value.ValuePartialEq.TheImpl as value_eq;
+ghost use Rattle.dc_types.specs.contracts.range.SourcePartialEq.TheImpl as source_eq;
+ghost use Rattle.dc_types.specs.contracts.place.StepPartialEq.TheImpl as step_eq;
+ghost use Rattle.dc_types.specs.contracts.event.CallCountPartialEq.TheImpl as call_count_eq;
+ghost use Rattle.dc_types.specs.contracts.event.ProbeStatePartialEq.TheImpl as probe_state_eq;
+ghost use Rattle.dc_types.specs.contracts.event.LimitsPartialEq.TheImpl as limits_eq;
 
 /// The comparisons are exact: `==` holds of equal values and of no others.
 pub fn comparison_laws()
@@ -38,9 +47,19 @@ pub fn comparison_laws()
     ensures ranges { IsExact ((range_eq.ghosts).eq) }
     ensures spans { IsExact ((span_eq.ghosts).eq) }
     ensures spots { IsExact ((spot_eq.ghosts).eq) }
-    ensures types { IsExact same.ty }
-    ensures trees { IsExact same.tree }
-    ensures patterns { IsExact same.pattern }
-    ensures values { IsExact same.value }
-    ensures sources { IsExact same.source }
+    ensures types { IsExact ((ty_eq.ghosts).eq) }
+    ensures trees { IsExact ((tree_eq.ghosts).eq) }
+    ensures patterns { IsExact ((pattern_eq.ghosts).eq) }
+    ensures values { IsExact ((value_eq.ghosts).eq) }
+    ensures sources { IsExact ((source_eq.ghosts).eq) }
+    ensures steps { IsExact ((step_eq.ghosts).eq) }
+    ensures call_counts { IsExact ((call_count_eq.ghosts).eq) }
+    ensures probe_states { IsExact ((probe_state_eq.ghosts).eq) }
+    ensures limits { IsExact ((limits_eq.ghosts).eq) }
+{}
+
+/// The order of steps: offsets come before rounds and rounds before instances, each sort by what it holds.
+#[tactic(auto, using(crate::specs::Ordered::step_order))]
+pub fn order_laws()
+    ensures { StepOrder }
 {}

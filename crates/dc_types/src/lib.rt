@@ -41,7 +41,7 @@ pub use file::File;
 pub use key::{key_laws, key_text};
 pub use key_reader::args_of;
 pub use kind::{BinOp, CmpOp, Kind, UnOp};
-pub use laws::comparison_laws;
+pub use laws::{comparison_laws, order_laws};
 pub use layout::{Field, Fields, LayoutDraft, Layouts, cells, copy_field, copy_fields};
 pub use list::Items;
 pub use pattern::{

@@ -1,7 +1,7 @@
 // Why a program is refused.
 ghost use Rattle.std.specs.Prelude.{◌≡◌, IfOk};
 
-use crate::{Place, Text, copy_place};
+use crate::{NoMemory, Place, Text, copy_place};
 use std::alloc::{AllocError, AllocFailed, Global};
 
 /// A rule that a program breaks, and where.
@@ -50,6 +50,17 @@ impl<T: Drop> From<AllocFailed<T>> for Fail {
     ghost from_gives = { λ _ fail. fail ≡ NoMemory };
 
     fn from(_: AllocFailed<T>) -> Self {
+        Fail::NoMemory
+    }
+}
+
+impl From<NoMemory> for Fail {
+    ghost use Rattle.std.specs.Prelude.{◌≡◌};
+    ghost use Rattle.dc_types.specs.declared.refusal.Fail.TheVariants as fail;
+
+    ghost from_gives = { λ _ result. result ≡ fail.NoMemory };
+
+    fn from(_: NoMemory) -> Self {
         Fail::NoMemory
     }
 }

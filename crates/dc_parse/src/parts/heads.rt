@@ -117,7 +117,10 @@ impl<'a, E: ReadExpr> Source<'a, E> {
         ensures { Reads self.now.tokens.now spec.for_start at result }
     {
         match self.variable_read(at) {
-            Ok((variables, rest)) => Ok((ForStart::Variable(variables), rest)),
+            Ok((variables, rest)) => {
+                let at = self.start(at);
+                Ok((ForStart::Variable { at, variables }, rest))
+            }
             Err(Miss::Nothing) => self.for_expr(at),
             Err(Miss::Memory) => Err(Miss::Memory),
         }

@@ -1,4 +1,4 @@
-use Rattle.std.proofs.Common.{eq-eqb, ◌≡◌, ◌∙◌, sym, ap, ◌==◌, Bool, true, false, ◌&&◌, Some, map, length, arith}
+use Rattle.std.proofs.Common.{eq-eqb, ◌≡◌, ◌∙◌, sym, ap, ◌==◌, true, false, ◌&&◌, Some, map, length, arith}
 use Rattle.std.proofs.lemmas.Bool.Decides.{nat_tests}
 use Rattle.dc_types.specs.declared.kind.Kind.TheVariants as kinds
 use Rattle.dc_types.specs.declared.ty.Ty.TheVariants as ty

@@ -1,4 +1,4 @@
-use Rattle.std.proofs.Common.{◌≡◌, ◌∙◌, sym, ap, Bool, true, false, ◌||◌, ◌&&◌}
+use Rattle.std.proofs.Common.{◌≡◌, ◌∙◌, sym, ap, true, false, ◌||◌, ◌&&◌}
 use Rattle.dc_types.specs.Same as same
 use Rattle.dc_types.specs.declared.ty.Ty.TheVariants as ty
 use Rattle.dc_convert.specs.Levels.{goes}

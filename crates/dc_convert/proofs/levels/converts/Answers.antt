@@ -1,4 +1,4 @@
-use Rattle.std.proofs.Common.{◌≡◌, ◌∙◌, refl, sym}
+use Rattle.std.proofs.Common.{◌∙◌, refl, sym}
 use Rattle.dc_types.specs.Exact.{ty-Decides}
 use Rattle.dc_convert.specs.Levels.{type_of}
 use Rattle.dc_convert.proofs.Keeping.{differ}
@@ -15,7 +15,7 @@ pub returns-else-fits-clause-same : goal.returns-else-fits-clause-same
 returns-else-fits-clause-same c = (λ e. absurd (cc), λ e. absurd (differ _ _ (sym c.same_ty.ensures ∙ c.if-same_ty.false) e))
 
 pub returns-then-same_ty-clause-keeps : goal.returns-then-same_ty-clause-keeps
-returns-then-same_ty-clause-keeps c k j z p q n h i = equal_types (type_of c.args.from.now) c.args.to.now k j z (sym c.same_ty.ensures ∙ c.if-same_ty.true) p q
+returns-then-same_ty-clause-keeps c k j z p q n h i = equal_types (type_of c.args.from.now) c.args.to.now k j z (sym c.same_ty.ensures ∙ c.if-same_ty.true) p q h
 
 pub returns-then-fits-clause-keeps : goal.returns-then-fits-clause-keeps
 returns-then-fits-clause-keeps c k j z p q n h i = fitting_keeps c.args.from.now c.args.to.now k j z (sym c.fits.ensures ∙ c.if-fits.true) p q h i

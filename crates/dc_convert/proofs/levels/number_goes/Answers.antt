@@ -1,4 +1,4 @@
-use Rattle.std.proofs.Common.{◌≡◌, ◌∙◌, sym}
+use Rattle.std.proofs.Common.{◌∙◌, sym}
 use Rattle.dc_convert.proofs.Keeping.{keeps, true_of}
 use Rattle.dc_convert.proofs.levels.number_goes.Goals as goal
 

@@ -1,6 +1,6 @@
-use Rattle.std.proofs.Common.{◌≡◌, ◌∙◌, sym, ap, arith, ℤ, pos, ◌+ℤ◌, ◌-ℤ◌}
-use Rattle.std.proofs.lemmas.Int.{ints, clamps}
-use Rattle.dc_convert.specs.Ranges.{whole, fitted, spanned, sum, difference, product, quotient, remainder, conjunction, disjunction, ones, shifted, range_of}
+use Rattle.std.proofs.Common.{◌∙◌, sym, ap, arith}
+use Rattle.std.proofs.lemmas.Int.{ints}
+use Rattle.dc_convert.specs.Ranges.{fitted, sum, difference, range_of}
 use Rattle.dc_convert.proofs.Ends.{same_ends, wide}
 use Rattle.dc_convert.proofs.ranges.by_operator.Goals as goal
 

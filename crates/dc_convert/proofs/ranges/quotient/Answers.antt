@@ -1,9 +1,6 @@
-use Rattle.std.proofs.Common.{◌≡◌, ◌∙◌, refl, sym, ap, rules, arith, Bool, true, false, cond, ◌&&◌, ℤ, pos, ◌+ℤ◌, ◌-ℤ◌, ◌*ℤ◌, FitsSigned, unsigned_abs}
-use Rattle.std.specs.Prelude.{int_div}
-use Rattle.std.specs.Int.{w128, int_max, int_min}
-use Rattle.std.proofs.lemmas.Int.{ints, clamps, to_z-of_z}
-use Rattle.dc_convert.specs.Ranges.{whole, fitted, spanned, above_zero, from_zero, has_quotient, sum, difference, product, quotient, remainder, conjunction, disjunction, ones, shifted, range_of}
-use Rattle.dc_convert.proofs.Ends.{of_ends, same_ends, same_span, taken, not_taken, and_left, saturate, saturated_same, wide, through, low_fits, high_fits, min_is, max_is, top_fits, quotient_through, product_through, top_between, is_above}
+use Rattle.std.proofs.Common.{◌≡◌, ◌∙◌, sym, ap, true}
+use Rattle.dc_convert.specs.Ranges.{fitted, has_quotient, quotient}
+use Rattle.dc_convert.proofs.Ends.{same_span, taken, and_left, low_fits, high_fits, quotient_through, is_above}
 use Rattle.dc_convert.proofs.ranges.quotient.Goals as goal
 
 pub returns-then-has_quotient : goal.returns-then-has_quotient

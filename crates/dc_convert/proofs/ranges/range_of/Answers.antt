@@ -1,5 +1,5 @@
-use Rattle.std.proofs.Common.{◌≡◌, sym, subst}
-use Rattle.dc_convert.specs.Ranges.{Within, range_of}
+use Rattle.std.proofs.Common.{sym, subst}
+use Rattle.dc_convert.specs.Ranges.{Within}
 use Rattle.dc_convert.proofs.Ends.{wide}
 use Rattle.dc_convert.proofs.Sound.{range_of_sound}
 use Rattle.dc_convert.proofs.ranges.range_of.Goals as goal

@@ -1,8 +1,7 @@
-use Rattle.std.proofs.Common.{◌≡◌, ◌∙◌, refl, sym, ap, rules, arith, ℤ, pos, ◌+ℤ◌, ◌-ℤ◌, FitsSigned}
+use Rattle.std.proofs.Common.{rules, FitsSigned}
 use Rattle.std.specs.Int.{w128}
-use Rattle.std.proofs.lemmas.Int.{ints, clamps}
-use Rattle.dc_convert.specs.Ranges.{whole, fitted, spanned, sum, difference, product, quotient, remainder, conjunction, disjunction, ones, shifted, range_of}
-use Rattle.dc_convert.proofs.Ends.{same_ends, wide, four_least, four_most, min_is, max_is, top_fits}
+use Rattle.dc_convert.specs.Ranges.{spanned}
+use Rattle.dc_convert.proofs.Ends.{same_ends, four_least, four_most}
 use Rattle.dc_convert.proofs.ranges.spanned.Goals as goal
 
 pub returns : goal.returns

@@ -1,5 +1,4 @@
-use Rattle.dc_types.specs.Equal.{places, consts, args_, takes, params, bindings, call_params, candidates, fields, is_forms, questions, refusals, traps, events_, ranges, spans, spots}
-use Rattle.dc_types.specs.Exact.{ty-Decides, tree-Decides, pattern-Decides, value-Decides, source-Decides}
+use Rattle.dc_types.specs.Equal.{places, consts, args_, takes, params, bindings, call_params, candidates, fields, is_forms, questions, refusals, traps, events_, ranges, spans, spots, types, trees, patterns, values, sources, step_laws, call_counts, probe_states, limits}
 use Rattle.dc_types.proofs.laws.comparison_laws.Goals as goal
 
 pub returns-clause-places : goal.returns-clause-places
@@ -54,16 +53,28 @@ pub returns-clause-spots : goal.returns-clause-spots
 returns-clause-spots c = spots
 
 pub returns-clause-types : goal.returns-clause-types
-returns-clause-types c = ty-Decides
+returns-clause-types c = types
 
 pub returns-clause-trees : goal.returns-clause-trees
-returns-clause-trees c = tree-Decides
+returns-clause-trees c = trees
 
 pub returns-clause-patterns : goal.returns-clause-patterns
-returns-clause-patterns c = pattern-Decides
+returns-clause-patterns c = patterns
 
 pub returns-clause-values : goal.returns-clause-values
-returns-clause-values c = value-Decides
+returns-clause-values c = values
 
 pub returns-clause-sources : goal.returns-clause-sources
-returns-clause-sources c = source-Decides
+returns-clause-sources c = sources
+
+pub returns-clause-steps : goal.returns-clause-steps
+returns-clause-steps c = step_laws
+
+pub returns-clause-call_counts : goal.returns-clause-call_counts
+returns-clause-call_counts c = call_counts
+
+pub returns-clause-probe_states : goal.returns-clause-probe_states
+returns-clause-probe_states c = probe_states
+
+pub returns-clause-limits : goal.returns-clause-limits
+returns-clause-limits c = limits

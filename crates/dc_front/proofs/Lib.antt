@@ -1,0 +1,11 @@
+pub mod Others
+pub mod Calls
+pub mod OtherStatements
+pub mod OtherDeclarations
+pub mod Naming
+pub mod TypedValues
+pub mod TypedStatements
+pub mod TypedPrograms
+pub mod Literals
+pub mod Bodies
+pub mod Loops

@@ -1,0 +1,36 @@
+-- The order of places: by the module's name, then step by step, where an offset comes before a round and a round before an
+-- instance, and a place before those inside it.
+use Rattle.std.proofs.Common.{◌≡◌, refl, ℕ, List, [], ◌∷◌, ◌++◌}
+use Rattle.std.specs.Ordering.{nat_cmp}
+use Rattle.std.specs.Cmp.Lexicographic.{slice_cmp}
+use Rattle.std.specs.declared.cmp.Ordering.{Ordering}
+use Rattle.std.specs.declared.cmp.Ordering.TheVariants.{Less}
+use Rattle.dc_types.specs.declared.place.Step.{Step}
+use Rattle.dc_types.specs.declared.place.Step.TheVariants as steps
+use Rattle.dc_types.specs.declared.place.Place.{Place}
+use Rattle.dc_types.specs.contracts.place.StepOrd.TheImpl as step_ord
+use Rattle.dc_types.specs.contracts.place.PlaceOrd.TheImpl as place_ord
+
+abbrev pub by_step : Step → Step → Ordering
+by_step = (step_ord.ghosts).cmp
+
+abbrev pub by_place : Place → Place → Ordering
+by_place = (place_ord.ghosts).cmp
+
+pub record StepOrder : Type 0 where
+  pub offsets : (a b : ℕ) → by_step (steps.At a) (steps.At b) ≡ nat_cmp a b
+  pub rounds : (a b : ℕ) → by_step (steps.Round a) (steps.Round b) ≡ nat_cmp a b
+  pub keys : (a b : List ℕ) → by_step (steps.With a) (steps.With b) ≡ slice_cmp nat_cmp a b
+  pub offset_first : (a b : ℕ) → by_step (steps.At a) (steps.Round b) ≡ Less
+  pub offset_before_key : (a : ℕ) (k : List ℕ) → by_step (steps.At a) (steps.With k) ≡ Less
+  pub round_before_key : (a : ℕ) (k : List ℕ) → by_step (steps.Round a) (steps.With k) ≡ Less
+
+pub step_order : StepOrder
+step_order = record {
+  offsets = λ a b. refl;
+  rounds = λ a b. refl;
+  keys = λ a b. refl;
+  offset_first = λ a b. refl;
+  offset_before_key = λ a k. refl;
+  round_before_key = λ a k. refl;
+}
