@@ -5,7 +5,7 @@ ghost use Rattle.dc_front.specs.Judging.{Answers};
 ghost use Rattle.dc_front.specs.JudgingStatements.{declaring, declare_of, assignment, assign_of, call_of, return_of, step_of, steps_of, scoped_of, scoped_one_of, choice_of, choices_of};
 
 use crate::judge_values::{
-    arguments, called, callee_of, condition, int, place_in, refuse, typed, variable_in, variable_of,
+    arguments, called, callee_of, condition, int, place_in, refuse, variable_in, variable_of,
 };
 use crate::judged::{Chosen, Known, Moved, State, Stepped};
 use crate::{Action, Branch, Value};

@@ -1,9 +1,11 @@
 pub mod Words
 pub mod Names
-pub mod Tokens
-pub mod Lexing
-pub mod Grammar
-pub mod Reading
+pub mod Outcomes
+pub mod Machines
 pub mod Reports
+pub mod Told
 pub mod Answers
 pub mod Laws
+pub mod Texts
+pub mod Front
+pub mod Spellings

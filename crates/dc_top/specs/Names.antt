@@ -1,7 +1,6 @@
 -- Names of modules (D specification, "Modules", "Module Declaration").
-use Rattle.std.specs.Prelude.{ℕ, ◌-◌, suc, Bool, false, not, ◌&&◌, ◌||◌, ◌==◌, List, [], ◌∷◌, length, take, if◌then◌else◌}
-use Rattle.std.specs.List.{list_all, list_any}
-use Rattle.std.specs.Char.{is_ascii_digit, is_ascii_alphanumeric}
+use Rattle.std.specs.Prelude.{ℕ, ◌-◌, suc, Bool, ◌==◌, List, [], ◌∷◌, length, take, if◌then◌else◌}
+use Rattle.std.specs.List.{list_any}
 
 -- the byte stands in the list
 abbrev pub has : ℕ → List ℕ → Bool
@@ -19,16 +18,3 @@ before_last mark bytes = if has mark bytes then take (length bytes - suc (length
 -- A file's module is named as the file, without its folder (up to the last `/`) and its last extension (from the last `.`).
 abbrev pub default_name : List ℕ → List ℕ
 default_name path = before_last 46 (behind_last 47 path)
-
--- a letter, a digit or `_`
-abbrev pub is_word_byte : ℕ → Bool
-is_word_byte b = is_ascii_alphanumeric b || b == 95
-
--- it isn't empty, and no digit stands first
-abbrev pub begins_well : List ℕ → Bool
-begins_well [] = false
-begins_well (b ∷ bs) = not (is_ascii_digit b)
-
--- letters, digits and `_`, and no digit first
-abbrev pub is_identifier : List ℕ → Bool
-is_identifier name = begins_well name && list_all is_word_byte name

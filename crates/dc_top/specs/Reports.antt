@@ -1,10 +1,13 @@
 -- The lines of a report.
-use Rattle.std.specs.Prelude.{ℕ, ◌+◌, ◌==◌, List, [], ◌∷◌, ◌++◌, length, take, count_by, codes, if◌then◌else◌}
-use Rattle.std.specs.Fmt.{decimal}
+use Rattle.std.specs.Prelude.{ℕ, ◌+◌, ◌==◌, List, [], ◌∷◌, ◌++◌, length, take, count_by, codes, if◌then◌else◌, ℤ}
+use Rattle.std.specs.Fmt.{decimal, signed_decimal}
 use Rattle.dc_types.specs.declared.place.Step.{Step}
 use Rattle.dc_types.specs.declared.place.Step.TheVariants.{At, Round, With}
 use Rattle.dc_types.specs.declared.place.Place.{Place}
 use Rattle.dc_types.specs.declared.refusal.Refusal.{Refusal}
+use Rattle.dc_types.specs.declared.event.TrapKind.{TrapKind}
+use Rattle.dc_types.specs.declared.event.TrapKind.TheVariants as kind
+use Rattle.dc_types.specs.declared.event.Trap.{Trap}
 use Rattle.dc_top.specs.Names.{behind_last}
 
 -- the line of an offset, from 1: one more than the line feeds before it
@@ -86,3 +89,26 @@ read_fault_line file = codes "read fault: " ++ (file ++ codes "\n")
 
 unfoldable pub usage_line : List ℕ
 usage_line = codes "usage: dpc run|check|audit|gen\n"
+
+-- the name of a trap
+abbrev pub trap_name : TrapKind → List ℕ
+trap_name kind.Divide = codes "Divide"
+trap_name kind.Shift = codes "Shift"
+trap_name kind.Bounds = codes "Bounds"
+trap_name kind.Length = codes "Length"
+trap_name kind.Overlap = codes "Overlap"
+trap_name kind.Assert = codes "Assert"
+trap_name kind.Heap = codes "Heap"
+trap_name kind.Depth = codes "Depth"
+
+-- `trap: KIND at PLACE`
+unfoldable pub trap_line : List (List ℕ) → Trap → List ℕ
+trap_line texts trap = codes "trap: " ++ (trap_name trap.kind ++ (codes " at " ++ (place_text texts trap.place ++ codes "\n")))
+
+-- `bound: N ticks`
+unfoldable pub bound_line : ℕ → List ℕ
+bound_line ticks = codes "bound: " ++ (decimal ticks ++ codes " ticks\n")
+
+-- `ended: N`
+unfoldable pub ended_line : ℤ → List ℕ
+ended_line number = codes "ended: " ++ (signed_decimal number ++ codes "\n")

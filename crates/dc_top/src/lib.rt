@@ -3,15 +3,22 @@
 //! The call reads and judges first, and writes after: the plan that comes between holds all that is to be done.
 #![tactic(auto)]
 
-mod evaluate;
-mod form;
+mod front;
 mod laws;
 mod names;
-mod print;
+mod perform;
+mod program;
 mod report;
-mod tokens;
+mod run;
+mod text;
+#[cfg(test)]
+mod text_tests;
+mod told;
 mod top;
 mod words;
 
-pub use laws::texts_have_one_program;
+pub use laws::{
+    counts_are_decimals, each_text_is_settled, one_text_verdict, texts_have_one_verdict,
+    tokens_are_spelled,
+};
 pub use top::dpc;

@@ -1,7 +1,6 @@
 // Names of modules.
 ghost use Rattle.std.specs.Prelude.{◌≡◌, ◌≤◌, length};
-ghost use Rattle.std.specs.List.{list_all};
-ghost use Rattle.dc_top.specs.Names.{behind_last, before_last, default_name, is_word_byte, begins_well, is_identifier};
+ghost use Rattle.dc_top.specs.Names.{behind_last, before_last, default_name};
 
 /// What stands behind the last byte of this value, or all where there is none.
 #[tactic(auto, using(crate::proofs::LastByte::last_start))]
@@ -37,33 +36,4 @@ pub fn default_name(path: &[u8]) -> &[u8]
     ensures { result.now ≡ default_name path.now }
 {
     before_last(b'.', behind_last(b'/', path))
-}
-
-/// A letter, a digit or `_`.
-pub fn is_word_byte(byte: u8) -> bool
-    ensures { result ≡ is_word_byte byte }
-{
-    byte.is_ascii_alphanumeric() || byte == b'_'
-}
-
-fn begins_well(name: &[u8]) -> bool
-    ensures { result ≡ begins_well name.now }
-{
-    match name {
-        [] => false,
-        [first, ..] => !first.is_ascii_digit(),
-    }
-}
-
-fn has_word_bytes(name: &[u8]) -> bool
-    ensures { result ≡ list_all is_word_byte name.now }
-{
-    name.iter().all(|byte| is_word_byte(*byte))
-}
-
-/// Letters, digits and `_`, and no digit first (D specification, "Lexical", "Identifiers").
-pub fn is_identifier(name: &[u8]) -> bool
-    ensures { result ≡ is_identifier name.now }
-{
-    begins_well(name) && has_word_bytes(name)
 }

@@ -1,11 +1,11 @@
 // The lines of a report.
 ghost use Rattle.std.specs.Prelude.{◌≡◌, ◌++◌, ◌∷◌, List, take, IfOk, OnOk, codes};
-ghost use Rattle.std.specs.Fmt.{decimal};
+ghost use Rattle.std.specs.Fmt.{decimal, signed_decimal};
 ghost use Rattle.dc_types.specs.declared.place.Step.{Step};
-ghost use Rattle.dc_top.specs.Reports.{line_of, column_of, point_text, first_text, other_texts, steps_text, place_text, rule_name, detail_text, refused_line, read_fault_line, usage_line};
+ghost use Rattle.dc_top.specs.Reports.{line_of, column_of, point_text, first_text, other_texts, steps_text, place_text, rule_name, detail_text, refused_line, read_fault_line, usage_line, trap_name, trap_line, bound_line, ended_line};
 
 use crate::names::behind_last;
-use dc_types::{Place, Refusal, Step, Text};
+use dc_types::{Place, Refusal, Step, Text, Trap, TrapKind};
 use std::alloc::{AllocError, Global};
 
 /// What is printed where the words are no job.
@@ -221,6 +221,58 @@ pub fn read_fault_line(alloc: Global, file: &[u8]) -> Result<Text, AllocError>
 {
     let mut line = Text::copy_of(alloc, b"read fault: ")?;
     line.append(file)?;
+    line.append(b"\n")?;
+    Ok(line)
+}
+
+/// The name of a trap.
+fn trap_name(kind: TrapKind) -> &'static [u8]
+    ensures { result.now ≡ trap_name kind }
+{
+    match kind {
+        TrapKind::Divide => b"Divide",
+        TrapKind::Shift => b"Shift",
+        TrapKind::Bounds => b"Bounds",
+        TrapKind::Length => b"Length",
+        TrapKind::Overlap => b"Overlap",
+        TrapKind::Assert => b"Assert",
+        TrapKind::Heap => b"Heap",
+        TrapKind::Depth => b"Depth",
+    }
+}
+
+/// The line that tells a trap. The texts are those that the offsets of its place count in.
+#[tactic(auto, unfolding(crate::specs::Reports::trap_line))]
+pub fn trap_line(alloc: Global, texts: &[Text], trap: &Trap) -> Result<Text, AllocError>
+    ensures { IfOk result (λ line. line ≡ trap_line texts.now trap.now) }
+{
+    let mut line = Text::copy_of(alloc, b"trap: ")?;
+    line.append(trap_name(trap.kind))?;
+    line.append(b" at ")?;
+    append_place(&mut line, alloc, texts, &trap.place)?;
+    line.append(b"\n")?;
+    Ok(line)
+}
+
+/// The line that tells that a run would have taken more ticks than it may.
+#[tactic(auto, unfolding(crate::specs::Reports::bound_line))]
+pub fn bound_line(alloc: Global, ticks: u64) -> Result<Text, AllocError>
+    ensures { IfOk result (λ line. line ≡ bound_line ticks) }
+{
+    let mut line = Text::copy_of(alloc, b"bound: ")?;
+    append_number(&mut line, alloc, ticks)?;
+    line.append(b" ticks\n")?;
+    Ok(line)
+}
+
+/// The line that tells the number that `main` gave.
+#[tactic(auto, unfolding(crate::specs::Reports::ended_line))]
+pub fn ended_line(alloc: Global, number: i64) -> Result<Text, AllocError>
+    ensures { IfOk result (λ line. line ≡ ended_line number) }
+{
+    let digits = format!(in alloc; "{number}")?;
+    let mut line = Text::copy_of(alloc, b"ended: ")?;
+    line.append(digits.as_bytes())?;
     line.append(b"\n")?;
     Ok(line)
 }

@@ -1,20 +1,19 @@
 // The one call that does all.
-ghost use Rattle.std.specs.Prelude.{◌≡◌, ◌⊎◌, ℕ, List, IfOk, IsSome, None, vec_len};
-ghost use Rattle.dc_tree.specs.declared.sums.SumStmt.{SumStmt};
+ghost use Rattle.std.specs.Prelude.{◌≡◌, ◌⊎◌, ℕ, List, IsSome, None, vec_len};
 ghost use Rattle.std.specs.Io.KnownBytes.{Keeps};
 ghost use Rattle.dc_edge.specs.Causes.{Rose, CountsFaults};
 ghost use Rattle.dc_top.specs.Words.{texts_of, job_of};
-ghost use Rattle.dc_top.specs.Answers.{refusal_of, IsRun, IsRefused, LacksFile, Answers, Decides, IsOrFails, Follows};
+ghost use Rattle.dc_top.specs.Answers.{IsRun, IsRefused, LacksFile, Answers, Decides, IsOrFails, Follows, Refuses};
+ghost use Rattle.dc_top.specs.declared.program.Run.{Run};
 
-use crate::form::{FormFault, program};
-use crate::names::default_name;
-use crate::print::print_all;
+use crate::front::front;
+use crate::perform::perform;
+use crate::program::Run;
 use crate::report::{read_fault_line, refused_line, usage_line};
-use crate::words::job;
+use crate::words::job_of;
 use dc_edge::{LibFault, Library, Probe, Sink, SinkFault};
-use dc_tree::SumStmts;
-use dc_types::{Items, NoMemory, Place, Refusal, Status, Step, Text};
-use std::alloc::{AllocError, Global};
+use dc_types::{Fail, NoMemory, Status, Text};
+use std::alloc::Global;
 use std::slice;
 
 /// What is to be done, decided before anything is written.
@@ -25,45 +24,31 @@ pub enum Plan {
     ReadFault(Text),
     /// The line that tells the refusal.
     Refused(Text),
-    Run(SumStmts),
-}
-
-/// The refusal of a text without the form: rule 2 at its first byte.
-fn refusal(alloc: Global, file: &[u8]) -> Result<Refusal, AllocError>
-    ensures { IfOk result (λ refusal. refusal ≡ refusal_of file.now) }
-{
-    let mut steps = Items::new(alloc);
-    steps.push(Step::At(0))?;
-    Ok(Refusal {
-        rule: 2,
-        place: Place {
-            module: Text::copy_of(alloc, default_name(file))?,
-            steps,
-        },
-        detail: Text::new(alloc),
-    })
+    Run(Run),
 }
 
 /// Reads the job's file and judges its text. Nothing is written.
-#[tactic(auto, using(crate::proofs::Programs::judging))]
 fn decide<L: Library>(alloc: Global, words: &Vec<String>, lib: &mut L) -> Result<Plan, NoMemory>
     ensures plan { Decides (job_of (texts_of words.now.items)) (L.told lib.old) (L.faults lib.old) (L.faults lib.new) result }
     ensures told { L.told lib.new ≡ L.told lib.old }
 {
-    let Some(file) = job(words) else {
+    let Some(job) = job_of(words) else {
         return Ok(Plan::Usage);
     };
-    let text = match lib.read(alloc, file) {
+    let text = match lib.read(alloc, job.file) {
         Ok(text) => text,
         Err(LibFault::NoMemory) => return Err(NoMemory),
-        Err(LibFault::Failed) => return Ok(Plan::ReadFault(read_fault_line(alloc, file)?)),
-        Err(LibFault::Missing) => return Ok(Plan::ReadFault(read_fault_line(alloc, file)?)),
+        Err(LibFault::Failed) => return Ok(Plan::ReadFault(read_fault_line(alloc, job.file)?)),
+        Err(LibFault::Missing) => return Ok(Plan::ReadFault(read_fault_line(alloc, job.file)?)),
     };
-    match program(alloc, file, text.as_slice()) {
-        Ok(body) => Ok(Plan::Run(body)),
-        Err(FormFault::NoMemory) => Err(NoMemory),
-        Err(FormFault::NoForm) => {
-            let refusal = refusal(alloc, file)?;
+    match front(alloc, job.file, &text) {
+        Ok(program) => Ok(Plan::Run(Run {
+            program,
+            text,
+            ticks: job.ticks,
+        })),
+        Err(Fail::NoMemory) => Err(NoMemory),
+        Err(Fail::Refused(refusal)) => {
             let line = refused_line(alloc, slice::from_ref(&text), &refusal)?;
             Ok(Plan::Refused(line))
         }
@@ -105,17 +90,14 @@ fn carry_out<L: Library, S: Sink, R: Sink>(
             Err(SinkFault::Failed) => Status::WriteFault,
             Err(SinkFault::NoMemory) => Status::NoMemory,
         },
-        Ok(Plan::Run(body)) => match print_all(alloc, body.as_slice(), out) {
-            Ok(()) => Status::Done,
-            Err(SinkFault::Failed) => Status::WriteFault,
-            Err(SinkFault::NoMemory) => Status::NoMemory,
-        },
+        Ok(Plan::Run(run)) => perform(alloc, run, out, report),
     }
 }
 
-/// Does what the words after the program's name say: `run FILE` runs the program in that file.
+/// Does what the words after the program's name say: `run FILE` runs the program in that file in at most 100,000,000
+/// ticks, and `run --ticks N FILE` in at most N. A tick is taken at each function entry and at each turn of a loop.
 ///
-/// The program's output goes to `out`, one put for each line, and what is to be said of the call goes to `report`, as
+/// The program's output goes to `out`, one put for each print, and what is to be said of the call goes to `report`, as
 /// one put at most. After a put that failed nothing more is put. The probes are those that a run tells its events to.
 pub fn dpc<L: Library, S: Sink, R: Sink>(
     alloc: Global,
@@ -127,8 +109,8 @@ pub fn dpc<L: Library, S: Sink, R: Sink>(
 ) -> Status
     requires { vec_len probes.old ≡ 0 }
 
-    // What the status says of the job's text, and what each sink took: a program and its whole output, or the one line
-    // of the report. After a failed put or want of memory it is a front.
+    // What the status says of the job's text, and what each sink took: all that the program prints and the line that
+    // tells how its run ended, or the one line of the report. After a failed put or want of memory it is a front.
     ensures answers { Answers (job_of (texts_of words.now.items)) (L.told lib.old) (L.faults lib.old) (L.faults lib.new) result (S.taken out.old) (S.taken out.new) (R.taken report.old) (R.taken report.new) }
 
     // Where the words are no job, and only there, the status is Usage.
@@ -147,10 +129,10 @@ pub fn dpc<L: Library, S: Sink, R: Sink>(
     ensures out_first { (S.faults out.new ≡ S.faults out.old → ⊥) → Keeps (R.taken report.old) (R.taken report.new) }
     ensures report_counted { (R.faults report.new ≡ R.faults report.old → ⊥) → result ≡ Status.WriteFault }
 
-    // Where the files are told and no read failed: a file with a program is run, to its whole output unless a put failed
-    // or memory was wanted, and a file without one is refused.
-    ensures runs { IsSome (L.told lib.old) → (Rose (L.faults lib.old) (L.faults lib.new) → ⊥) → (body : List SumStmt) → IsRun (job_of (texts_of words.now.items)) (L.told lib.old) body → Follows body result (S.taken out.old) (S.taken out.new) }
-    ensures refuses { IsSome (L.told lib.old) → (Rose (L.faults lib.old) (L.faults lib.new) → ⊥) → (line : List ℕ) → IsRefused (job_of (texts_of words.now.items)) (L.told lib.old) line → IsOrFails Status.Refused result }
+    // Where the files are told and no read failed: a file with a program is run, and the status, the output and the line
+    // are those of its meaning, unless a put failed or memory was wanted. A file that is refused is refused with its line.
+    ensures runs { IsSome (L.told lib.old) → (Rose (L.faults lib.old) (L.faults lib.new) → ⊥) → (run : Run) → IsRun (job_of (texts_of words.now.items)) (L.told lib.old) run → Follows run result (S.taken out.old) (S.taken out.new) (R.taken report.old) (R.taken report.new) }
+    ensures refuses { IsSome (L.told lib.old) → (Rose (L.faults lib.old) (L.faults lib.new) → ⊥) → (line : List ℕ) → IsRefused (job_of (texts_of words.now.items)) (L.told lib.old) line → Refuses line result (S.taken out.old) (S.taken out.new) (R.taken report.old) (R.taken report.new) }
 
     ensures told { L.told lib.new ≡ L.told lib.old }
     ensures probes { probes.new ≡ probes.old }

@@ -5,7 +5,6 @@ mod body;
 mod flow;
 mod laws;
 mod stmt;
-mod sums;
 mod tree;
 mod weight;
 
@@ -13,6 +12,5 @@ pub use body::{Bodies, Body, Starts};
 pub use flow::complete;
 pub use laws::ticks_bound;
 pub use stmt::{Branch, Stmt, Stmts};
-pub use sums::{Link, Literal, Sign, Sum, SumStmt, SumStmts, Term};
 pub use tree::{Operation, Tree, Trees, Variable, Variables};
 pub use weight::{TOO_HEAVY, body_weight, tree_weight};
