@@ -10,3 +10,6 @@ pub mod Depths
 pub mod Skipping
 pub mod Reading
 pub mod Ticks
+pub mod Bare
+pub mod Ordering
+pub mod Showing

@@ -48,6 +48,11 @@ use Rattle.dc_types.specs.contracts.layout.FieldPartialEq.TheImpl as field_eq
 use Rattle.dc_types.specs.contracts.pattern.IsFormPartialEq.TheImpl as is_form_eq
 use Rattle.dc_types.specs.contracts.question.QuestionPartialEq.TheImpl as question_eq
 use Rattle.dc_types.specs.contracts.refusal.RefusalPartialEq.TheImpl as refusal_eq
+use Rattle.dc_types.specs.declared.refusal.Fail.{Fail}
+use Rattle.dc_types.specs.declared.refusal.Fail.TheVariants as failures
+use Rattle.dc_types.specs.contracts.refusal.FailPartialEq.TheImpl as fail_eq
+use Rattle.dc_types.specs.contracts.file.FilePartialEq.TheImpl as file_eq
+use Rattle.dc_types.specs.contracts.text.TextPartialEq.TheImpl as text_eq
 use Rattle.dc_types.specs.contracts.event.TrapPartialEq.TheImpl as trap_eq
 use Rattle.dc_types.specs.contracts.event.EventPartialEq.TheImpl as event_eq
 use Rattle.dc_types.specs.contracts.range.RangePartialEq.TheImpl as range_eq
@@ -271,3 +276,15 @@ spots a b =
 
 pub spans : IsExact ((span_eq.ghosts).eq)
 spans a b = span-Decides a b
+
+pub texts : IsExact ((text_eq.ghosts).eq)
+texts a b = bytes_eq-Decides a b
+
+pub files : IsExact ((file_eq.ghosts).eq)
+files a b = both-Decides (λ p c. record { path = p; bytes = c }) (λ f. f.path) (λ f. f.bytes) (λ f. refl) a b (bytes_eq a.path b.path) (bytes_eq a.bytes b.bytes) (bytes_eq-Decides a.path b.path) (bytes_eq-Decides a.bytes b.bytes)
+
+pub fails : IsExact ((fail_eq.ghosts).eq)
+fails (failures.Refused a) (failures.Refused b) = Decides-like ((refusal_eq.ghosts).eq a b) (λ e. ap failures.Refused e) (λ e. cc) (refusals a b)
+fails failures.NoMemory failures.NoMemory = (λ h. refl, λ e. refl)
+fails (failures.Refused a) failures.NoMemory = (λ h. cc, λ e. cc)
+fails failures.NoMemory (failures.Refused b) = (λ h. cc, λ e. cc)

@@ -8,3 +8,5 @@ pub mod KeyTexts
 pub mod KeyReading
 pub mod Equal
 pub mod Ordered
+pub mod Told
+pub mod Shown

@@ -71,3 +71,25 @@ pub fn copy_candidate(alloc: Global, candidate: &Candidate) -> Result<Candidate,
         above: copy_above(alloc, &candidate.above)?,
     })
 }
+
+/// A copy that is equal.
+pub fn copy_overload_set(alloc: Global, set: &OverloadSet) -> Result<OverloadSet, AllocError>
+    ensures { IfOk result (λ copy. copy ≡ set.now) }
+{
+    let mut copy = Items::new(alloc);
+    for candidate in set.as_slice() {
+        copy.push(copy_candidate(alloc, candidate)?)?;
+    }
+    Ok(copy)
+}
+
+/// A copy that is equal.
+pub fn copy_candidates(alloc: Global, sets: &Candidates) -> Result<Candidates, AllocError>
+    ensures { IfOk result (λ copy. copy ≡ sets.now) }
+{
+    let mut copy = Items::new(alloc);
+    for set in sets.as_slice() {
+        copy.push(copy_overload_set(alloc, set)?)?;
+    }
+    Ok(copy)
+}

@@ -1,7 +1,7 @@
 // What happens in a run, and what ends it.
 ghost use Rattle.std.specs.Prelude.{◌≡◌, IfOk};
 
-use crate::{Items, Place, Places, Text, copy_place};
+use crate::{Items, Place, Places, Text, copy_place, copy_places};
 use std::alloc::{AllocError, Global};
 
 /// What stops a program at an operation that has no result.
@@ -84,4 +84,45 @@ pub enum ProbeState {
     Called(Items<CallCount>),
     /// The functions that were entered first, up to a limit.
     First { limit: u32, places: Places },
+}
+
+/// A copy that is equal.
+pub fn copy_call_count(alloc: Global, count: &CallCount) -> Result<CallCount, AllocError>
+    ensures { IfOk result (λ copy. copy ≡ count.now) }
+{
+    Ok(CallCount {
+        place: copy_place(alloc, &count.place)?,
+        number: count.number,
+    })
+}
+
+/// A copy that is equal.
+pub fn copy_call_counts(
+    alloc: Global,
+    counts: &Items<CallCount>,
+) -> Result<Items<CallCount>, AllocError>
+    ensures { IfOk result (λ copy. copy ≡ counts.now) }
+{
+    let mut copy = Items::new(alloc);
+    for count in counts.as_slice() {
+        copy.push(copy_call_count(alloc, count)?)?;
+    }
+    Ok(copy)
+}
+
+/// A copy that is equal.
+pub fn copy_probe_state(alloc: Global, state: &ProbeState) -> Result<ProbeState, AllocError>
+    ensures { IfOk result (λ copy. copy ≡ state.now) }
+{
+    match state {
+        ProbeState::Covered { entered, turned } => Ok(ProbeState::Covered {
+            entered: copy_places(alloc, entered)?,
+            turned: copy_places(alloc, turned)?,
+        }),
+        ProbeState::Called(counts) => Ok(ProbeState::Called(copy_call_counts(alloc, counts)?)),
+        ProbeState::First { limit, places } => Ok(ProbeState::First {
+            limit: *limit,
+            places: copy_places(alloc, places)?,
+        }),
+    }
 }

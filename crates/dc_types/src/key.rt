@@ -59,7 +59,7 @@ fn put_steps(alloc: Global, out: &mut Text, steps: &[Step]) -> Result<(), AllocE
     Ok(())
 }
 
-fn kind_text(kind: Kind) -> &'static [u8]
+pub(crate) fn kind_text(kind: Kind) -> &'static [u8]
     ensures { result.now ≡ keys.kind_text kind }
 {
     match kind {
@@ -163,7 +163,7 @@ fn form_of(ty: &Ty) -> Form
 }
 
 /// The byte that a part of a string is.
-fn byte(tree: &CTree) -> u8
+pub(crate) fn byte(tree: &CTree) -> u8
     ensures { result ≡ keys.byte tree.now }
 {
     match tree {

@@ -29,7 +29,7 @@ impl<'a> Reader<'a> {
     ghost use Rattle.dc_types.specs.KeyTexts as keys;
     ghost use Rattle.dc_types.specs.KeyReading as reading;
 
-    fn new(rest: &'a [u8]) -> Reader<'a>
+    pub(crate) fn new(rest: &'a [u8]) -> Reader<'a>
         ensures { result ≡ rest.now }
     {
         Reader { rest }
@@ -410,7 +410,7 @@ fn pass_mark(from: &mut Reader<'_>)
     }
 }
 
-fn args_in(alloc: Global, from: &mut Reader<'_>) -> Result<Args, AllocError>
+pub(crate) fn args_in(alloc: Global, from: &mut Reader<'_>) -> Result<Args, AllocError>
     ensures { IfOk result (λ args. (args, from.new) ≡ reading.args_in from.old) }
 {
     let mut args = Items::new(alloc);

@@ -115,3 +115,14 @@ pub fn copy_is_form(alloc: Global, form: &IsForm) -> Result<IsForm, AllocError>
         params: copy_params(alloc, &form.params)?,
     })
 }
+
+/// A copy that is equal.
+pub fn copy_patterns(alloc: Global, patterns: &Patterns) -> Result<Patterns, AllocError>
+    ensures { IfOk result (λ copy. copy ≡ patterns.now) }
+{
+    let mut copy = Items::new(alloc);
+    for pattern in patterns.as_slice() {
+        copy.push(copy_pattern(alloc, pattern)?)?;
+    }
+    Ok(copy)
+}

@@ -108,3 +108,14 @@ pub fn copy_source(alloc: Global, source: &Source) -> Result<Source, AllocError>
         items,
     })
 }
+
+/// A copy that is equal.
+pub fn copy_arg_types(alloc: Global, sources: &ArgTypes) -> Result<ArgTypes, AllocError>
+    ensures { IfOk result (λ copy. copy ≡ sources.now) }
+{
+    let mut copy = Items::new(alloc);
+    for source in sources.as_slice() {
+        copy.push(copy_source(alloc, source)?)?;
+    }
+    Ok(copy)
+}

@@ -26,10 +26,20 @@ pub fn copy_refusal(alloc: Global, refusal: &Refusal) -> Result<Refusal, AllocEr
 }
 
 /// Why a text has no tokens, no tree or no program.
-#[derive(Debug, Drop)]
+#[derive(Debug, Drop, PartialEq, Eq)]
 pub enum Fail {
     Refused(Refusal),
     NoMemory,
+}
+
+/// A copy that is equal.
+pub fn copy_fail(alloc: Global, fail: &Fail) -> Result<Fail, AllocError>
+    ensures { IfOk result (λ copy. copy ≡ fail.now) }
+{
+    match fail {
+        Fail::Refused(refusal) => Ok(Fail::Refused(copy_refusal(alloc, refusal)?)),
+        Fail::NoMemory => Ok(Fail::NoMemory),
+    }
 }
 
 impl From<AllocError> for Fail {

@@ -52,6 +52,8 @@ fn start(alloc: Global, ty: &Ty, layouts: &Layouts) -> Result<CTree, AllocError>
     match ty {
         Ty::Void => Ok(CTree::Num(0)),
         Ty::Int(kind) => Ok(number_start(*kind)),
+        // Of an array without elements no element is made: it may be as large as one likes.
+        Ty::Fixed(_, 0) => Ok(CTree::List(Children::new(alloc))),
         Ty::Fixed(of, n) => {
             let one = start(alloc, of.get(), layouts)?;
             Ok(CTree::List(copies(alloc, *n, &one)?))

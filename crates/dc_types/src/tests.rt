@@ -1,7 +1,9 @@
 // Key texts, cells and start values, by hand from the rules.
+mod copies;
+
 use crate::{
-    Arg, Args, CTree, Const, Field, Items, LayoutDraft, Layouts, NoMemory, Place, Step, Text, Ty,
-    args_of, cells, copy_place, copy_ty, init, key_text,
+    Arg, Args, CTree, Const, Field, Items, LayoutDraft, Layouts, Naming, NoMemory, Place, Step,
+    Text, Ty, args_of, cells, copy_place, copy_ty, init, key_text, stringof_text, value_text,
 };
 use sqlite_items::Items as Children;
 use std::alloc::Global;
@@ -216,7 +218,7 @@ fn layouts(alloc: Global) -> Result<Layouts, NoMemory> {
     Ok(draft.finish(alloc)?)
 }
 
-static CELLS: [(&[u8], u64); 28] = [
+static CELLS: [(&[u8], u64); 29] = [
     (b"void", 1),
     (b"bool", 1),
     (b"ulong", 1),
@@ -234,6 +236,7 @@ static CELLS: [(&[u8], u64); 28] = [
     (b"int[1048576][2]", 1048577),
     (b"int[4294967295][4294967295][4294967295]", 1048577),
     (b"int[4294967295][0]", 1),
+    (b"int[1048576][1048576][0]", 1),
     (b"$a:30<ubyte>", 1),
     (b"$a:30<string>", 3),
     (b"a:0", 1),
@@ -286,8 +289,8 @@ fn numbered(alloc: Global, n: u32) -> Result<Place, NoMemory> {
 #[test]
 fn structs_of_structs_are_counted_once(rt: HostRuntime) -> Result<(), Fail> {
     let mut draft = LayoutDraft::new(rt.alloc());
-    for n in 0..3000u32 {
-        let of = if n == 2999 {
+    for n in 0..30000u32 {
+        let of = if n == 29999 {
             Ty::Str
         } else {
             Ty::Struct(numbered(rt.alloc(), n + 1)?)
@@ -297,14 +300,14 @@ fn structs_of_structs_are_counted_once(rt: HostRuntime) -> Result<(), Fail> {
             .insert(numbered(rt.alloc(), n)?, pair(rt.alloc(), of)?)?;
     }
     let layouts = draft.finish(rt.alloc())?;
-    let last = Ty::Struct(numbered(rt.alloc(), 2990)?);
+    let last = Ty::Struct(numbered(rt.alloc(), 29990)?);
     assert!(rt; cells(&last, &layouts) == 3072);
     let first = Ty::Struct(numbered(rt.alloc(), 0)?);
     assert!(rt; cells(&first, &layouts) == 1048577);
     Ok(())
 }
 
-static STARTS: [(&[u8], &[u8]); 11] = [
+static STARTS: [(&[u8], &[u8]); 12] = [
     (b"bool", b"bool=0"),
     (b"char", b"char=255"),
     (b"ulong", b"ulong=0"),
@@ -312,6 +315,7 @@ static STARTS: [(&[u8], &[u8]); 11] = [
     (b"int[]", b"int[]=[]"),
     (b"char[2]", b"char[2]=[255,255]"),
     (b"int[2][0]", b"int[2][0]=[]"),
+    (b"int[1048576][1048576][0]", b"int[1048576][1048576][0]=[]"),
     (b"int[0][2]", b"int[0][2]=[[],[]]"),
     (b"a:1", b"a:1={7,[1,2,3],[120]}"),
     (b"a:1[1]", b"a:1[1]=[[7,[1,2,3],[120]]]"),
@@ -327,5 +331,103 @@ fn start_values_by_type(rt: HostRuntime) -> Result<(), Fail> {
     }
     let member = init(rt.alloc(), &ty(rt.alloc(), b"$a:30<ubyte>")?, &layouts)?;
     assert!(rt; member.tree == CTree::Num(9));
+    Ok(())
+}
+
+/// A program in which a place of two steps is an instance. All instances have one name, and so have all other
+/// declarations; all structs have the same fields.
+#[derive(Drop)]
+struct Program {
+    instance: Text,
+    plain: Text,
+    fields: Items<Field>,
+}
+
+impl Naming for Program {
+    ghost use Rattle.std.specs.Prelude.{length, ◌==◌, if◌then◌else◌};
+
+    ghost told = { λ s. record { name = λ p. if length p.steps == 2 then s.instance else s.plain; is_instance = λ p. length p.steps == 2; fields = λ p. s.fields } };
+
+    fn name(&self, place: &Place) -> &[u8] {
+        if place.steps.len() == 2 {
+            self.instance.as_slice()
+        } else {
+            self.plain.as_slice()
+        }
+    }
+
+    fn is_instance(&self, place: &Place) -> bool {
+        place.steps.len() == 2
+    }
+
+    fn fields(&self, _: &Place) -> &[Field] {
+        self.fields.as_slice()
+    }
+}
+
+/// Key texts of one argument, and the texts that are shown of them. An instance has the name `I` and another declaration
+/// `P`; structs have fields of the types `char[]` and `bool`.
+static SHOWN: [(&[u8], &[u8]); 26] = [
+    (b"void", b"void"),
+    (b"ubyte", b"ubyte"),
+    (b"string[]", b"string[]"),
+    (b"int[3][]", b"int[3][]"),
+    (b"null", b"typeof(null)"),
+    (b"[]", b"void[]"),
+    (b"S:5", b"P"),
+    (b"S:5[2]", b"P[2]"),
+    (b"$E:5<int>[]", b"P[]"),
+    (b"S:5!()", b"I!()"),
+    (b"S:5!(int, $E:6<bool>[2])", b"I!(int, P[2])"),
+    (b"S:5!(int):7", b"P"),
+    (b"S:5!(T:6!(bool=1), &m, &f:3)", b"I!(I!(true), m, P)"),
+    (b"S:5!(T:9={[97,34],0})", b"I!(P(\"a\\x22\", false))"),
+    (b"int=-5", b"-5"),
+    (b"char=97", b"97"),
+    (b"bool=0", b"false"),
+    (b"$E:6<bool>=1", b"true"),
+    (b"string=\"3:a\\~", b"\"a\\x5C~\""),
+    (b"string=\"2:\x00\xFF", b"\"\\x00\\xFF\""),
+    (b"char[2]=[32,31]", b"\" \\x1F\""),
+    (b"char[][]=[[97],[]]", b"[\"a\", \"\"]"),
+    (b"int[]=[1,-2]", b"[1, -2]"),
+    (b"int[]=[]", b"[]"),
+    (b"S:5!(int)={[],1}", b"I!(int)(\"\", true)"),
+    (b"S:5[]=[[[97],1],[]]", b"[P(\"a\", true), P()]"),
+];
+
+/// What is shown of an argument.
+fn shown(alloc: Global, arg: &Arg, program: &Program) -> Result<Text, NoMemory> {
+    match arg {
+        Arg::OfType(ty) => stringof_text(alloc, ty, program),
+        Arg::OfValue(value) => value_text(alloc, value, program),
+        Arg::OfSymbol(_) => Ok(Text::new(alloc)),
+    }
+}
+
+#[test]
+fn types_and_values_are_shown(rt: HostRuntime) -> Result<(), Fail> {
+    let mut fields = Items::new(rt.alloc());
+    for start in [b"char[]=[]".as_slice(), b"bool=0".as_slice()] {
+        let start = value(rt.alloc(), start)?;
+        fields.push(Field {
+            name: Text::new(rt.alloc()),
+            ty: copy_ty(rt.alloc(), &start.ty)?,
+            start,
+        })?;
+    }
+    let program = Program {
+        instance: Text::copy_of(rt.alloc(), b"I")?,
+        plain: Text::copy_of(rt.alloc(), b"P")?,
+        fields,
+    };
+    for (i, row) in SHOWN.iter().enumerate() {
+        let args = args_of(rt.alloc(), row.0)?;
+        for arg in args.as_slice() {
+            let text = shown(rt.alloc(), arg, &program)?;
+            assert!(rt; text.as_slice() == row.1, "row {i}");
+        }
+        assert!(rt; args.len() == 1, "row {i}");
+    }
     Ok(())
 }

@@ -130,3 +130,14 @@ pub fn copy_value(alloc: Global, value: &Value) -> Result<Value, AllocError>
         }
     }
 }
+
+/// A copy that is equal.
+pub fn copy_values(alloc: Global, values: &Values) -> Result<Values, AllocError>
+    ensures { IfOk result (λ copy. copy ≡ values.now) }
+{
+    let mut copy = Items::new(alloc);
+    for value in values.as_slice() {
+        copy.push(copy_value(alloc, value)?)?;
+    }
+    Ok(copy)
+}

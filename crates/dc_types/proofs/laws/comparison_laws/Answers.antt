@@ -1,4 +1,4 @@
-use Rattle.dc_types.specs.Equal.{places, consts, args_, takes, params, bindings, call_params, candidates, fields, is_forms, questions, refusals, traps, events_, ranges, spans, spots, types, trees, patterns, values, sources, step_laws, call_counts, probe_states, limits}
+use Rattle.dc_types.specs.Equal.{places, consts, args_, takes, params, bindings, call_params, candidates, fields, is_forms, questions, refusals, traps, events_, ranges, spans, spots, types, trees, patterns, values, sources, step_laws, call_counts, probe_states, limits, texts, files, fails}
 use Rattle.dc_types.proofs.laws.comparison_laws.Goals as goal
 
 pub returns-clause-places : goal.returns-clause-places
@@ -78,3 +78,12 @@ returns-clause-probe_states c = probe_states
 
 pub returns-clause-limits : goal.returns-clause-limits
 returns-clause-limits c = limits
+
+pub returns-clause-texts : goal.returns-clause-texts
+returns-clause-texts c = texts
+
+pub returns-clause-files : goal.returns-clause-files
+returns-clause-files c = files
+
+pub returns-clause-fails : goal.returns-clause-fails
+returns-clause-fails c = fails
