@@ -1298,6 +1298,39 @@ fn levels_of_literals(rt: HostRuntime) -> Result<(), Fail> {
     Ok(())
 }
 
+/// The elements of an array literal of array literals of numbers, a type asked for, and the level.
+static NESTED: [(&[&[i128]], &[u8], u8); 5] = [
+    (&[&[1, 2], &[255]], b"ubyte[][]", 1),
+    (&[&[1, 2], &[255]], b"ubyte[2][]", 0),
+    (&[&[1, 2], &[255]], b"ubyte[2][2]", 0),
+    (&[&[1, 2], &[3, 4]], b"ubyte[2][2]", 1),
+    (&[&[1, 2], &[3, 256]], b"ubyte[2][2]", 0),
+];
+
+#[test]
+fn levels_of_nested_literals(rt: HostRuntime) -> Result<(), Fail> {
+    for (i, row) in NESTED.iter().enumerate() {
+        let mut items = Children::new(rt.alloc());
+        for values in row.0 {
+            items.push(Source {
+                ty: ty(rt.alloc(), b"int[]")?,
+                range: whole(Kind::I32),
+                place: false,
+                items: Some(numbers(rt.alloc(), Kind::I32, values)?),
+            })?;
+        }
+        let from = Source {
+            ty: ty(rt.alloc(), b"int[][]")?,
+            range: whole(Kind::I32),
+            place: false,
+            items: Some(items),
+        };
+        let to = ty(rt.alloc(), row.1)?;
+        assert!(rt; converts(&from, &to) == row.2, "row {i}");
+    }
+    Ok(())
+}
+
 #[test]
 fn common_kinds_of_parts(rt: HostRuntime) -> Result<(), Fail> {
     let mut parts = numbers(rt.alloc(), Kind::U8, &[1, 2])?;
