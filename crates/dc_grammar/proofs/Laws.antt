@@ -8,7 +8,7 @@ use Rattle.dc_grammar.specs.Reading.{Outcome, Reader}
 use Rattle.dc_grammar.specs.Grammar.{IsExpr, IsType}
 use Rattle.dc_grammar.specs.Readers.{expr_to, whole_expr, whole_type}
 use Rattle.dc_grammar.specs.Reads.{Longest, OneTree}
-use Rattle.dc_grammar.proofs.Good.{Good, Holds, Reaches, Fronts, shorter}
+use Rattle.dc_grammar.proofs.Good.{Good, Holds, Reaches, Fronts, shorter, length_of}
 use Rattle.dc_grammar.proofs.Rules.{expr_good, type_good}
 use Rattle.dc_grammar.proofs.Arguments.{argument_good}
 use Rattle.dc_grammar.proofs.Edges.{after_expr, after_type, begins_expr, begins_type}
@@ -94,6 +94,14 @@ module _ {A : Type 0} {g f : Terminal → Bool} {P : Tokens → A → Type 0} {p
       let ts = drop from tokens in
       let r : Reaches g None other (drop (to - from) ts) = subst (λ (r : Outcome A). Reaches g r other (drop (to - from) ts)) e (reach_at ts other (take (to - from) ts) (drop (to - from) ts) (sym (take-append-drop (to - from) ts)) is) in
       r
+
+  -- at the end of the tokens and behind it nothing begins
+  pub nothing_behind : (tokens : Tokens) (from : ℕ) → length tokens ≤ from → (to : ℕ) (other : A) → P (slice_range tokens from to) other → ⊥
+  nothing_behind tokens from le to other is =
+      let some = length_of (slice_range tokens from to) ((good 0).begins (slice_range tokens from to) other is) in
+      let size : length (slice_range tokens from to) ≤ length (drop from tokens) = omega (arith, length-take (to - from) (drop from tokens)) in
+      let none : length (drop from tokens) ≡ length tokens - from = length-drop from tokens in
+      absurd (omega arith)
 
   -- ---- the other way round: what is the longest is what the reader on lists gives
 

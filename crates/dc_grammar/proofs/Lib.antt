@@ -1,3 +1,4 @@
+pub mod Spelled
 pub mod Good
 mod Lists
 mod Choices
@@ -23,8 +24,7 @@ mod StmtLevels
 mod DeclRules
 mod DeclLevels
 pub mod Wholes
-mod ReadAt
-mod ChainTurns
 mod Past
 mod Examples
 mod News
+mod NewForms

@@ -1,3 +1,4 @@
+pub mod Spellings
 pub mod Terminals
 pub mod Words
 pub mod Reading
@@ -5,6 +6,7 @@ pub mod Trees
 pub mod MoreTrees
 pub mod Brackets
 pub mod NewArrays
+pub mod NewForms
 pub mod Grammar
 pub mod Shapes
 pub mod Parts

@@ -1,5 +1,5 @@
 -- Tokens that the compiler leaves out, and how deep a text nests.
-use Rattle.std.specs.Prelude.{◌≡◌, ℕ, zero, suc, ◌+◌, Bool, true, false, if◌then◌else◌, nat_lt, max, List, [], ◌∷◌, length, ◌≤◌, ◌<◌, slice_index, Option, Some, None}
+use Rattle.std.specs.Prelude.{◌≡◌, ℕ, zero, suc, ◌+◌, Bool, true, false, if◌then◌else◌, nat_lt, max, List, [], ◌∷◌, ◌++◌, length, ◌≤◌, ◌<◌, slice_index, Option, Some, None}
 use Rattle.dc_token.specs.declared.token.Token.{Token}
 use Rattle.dc_token.specs.declared.token.TokenKind.{TokenKind}
 use Rattle.dc_token.specs.declared.token.TokenKind.TheVariants as kind
@@ -111,9 +111,20 @@ beside_large limit (n ∷ ns) (token ∷ tokens) = if nat_lt limit n then Some t
 abbrev pub first_past : ℕ → Tokens → Option Token
 first_past limit tokens = beside_large limit (numbers k.End (0 ∷ []) tokens) tokens
 
--- A token past the limit stands exactly where the nesting of the text is above it.
-abbrev pub PastExactly : Type 0
-PastExactly = (limit : ℕ) (tokens : Tokens) → (first_past limit tokens ≡ None → nesting tokens ≤ limit) × ((token : Token) → first_past limit tokens ≡ Some token → limit < nesting tokens)
+-- the token ends the shortest front of the text whose nesting is above the limit
+pub record IsFirstPast (limit : ℕ) (tokens : Tokens) (token : Token) : Type 0 where
+  pub front : Tokens
+  pub behind : Tokens
+  pub is : tokens ≡ front ++ token ∷ behind
+  pub within : nesting front ≤ limit
+  pub past : limit < nesting (front ++ token ∷ [])
+
+-- There is a first token past the limit exactly where the nesting of the text is above it, and it is that one.
+pub record PastExactly : Type 0 where
+  pub none : (limit : ℕ) (tokens : Tokens) → first_past limit tokens ≡ None → nesting tokens ≤ limit
+  pub above : (limit : ℕ) (tokens : Tokens) (token : Token) → first_past limit tokens ≡ Some token → limit < nesting tokens
+  pub first : (limit : ℕ) (tokens : Tokens) (token : Token) → first_past limit tokens ≡ Some token → IsFirstPast limit tokens token
+  pub is : (limit : ℕ) (tokens : Tokens) (token : Token) → IsFirstPast limit tokens token → first_past limit tokens ≡ Some token
 
 -- the counts in a table up to a place, from there back
 abbrev pub stack : List ℕ → ℕ → List ℕ

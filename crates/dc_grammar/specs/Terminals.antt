@@ -1,5 +1,5 @@
 -- What tokens are to the grammar.
-use Rattle.std.specs.Prelude.{ℕ, Bool, if◌then◌else◌, List, [], ◌∷◌, Option, Some, None, bytes_eq, map}
+use Rattle.std.specs.Prelude.{ℕ, Bool, if◌then◌else◌, List, [], ◌∷◌, Option, Some, None, bytes_eq}
 use denote.Enum.Bare.{sameb}
 use Rattle.dc_token.specs.declared.token.Token.{Token}
 use Rattle.dc_token.specs.declared.token.TokenKind.{TokenKind}
@@ -17,7 +17,7 @@ use Rattle.dc_ast.specs.declared.word.IsRelation.TheVariants as relates
 use Rattle.dc_grammar.specs.contracts.terminal.Terminal.{the_type}
 use Rattle.dc_grammar.specs.declared.terminal.Terminal.{Terminal}
 use Rattle.dc_grammar.specs.declared.terminal.Terminal.TheVariants as k
-use Rattle.dc_grammar.specs.declared.terminal.TheConstants.{WORDS, SIGNS}
+use Rattle.dc_grammar.specs.Spellings.{words, signs}
 
 abbrev pub Tokens : Type 0
 Tokens = List Token
@@ -31,10 +31,10 @@ find [] w = k.Outside
 find (row ∷ rows) w = if bytes_eq row.0 w then row.1 else find rows w
 
 unfoldable pub word : List ℕ → Terminal
-word w = find (map (λ row. (row.0.now, row.1)) WORDS) w
+word w = find words w
 
 unfoldable pub sign : List ℕ → Terminal
-sign w = find (map (λ row. (row.0.now, row.1)) SIGNS) w
+sign w = find signs w
 
 abbrev pub terminal_by : TokenKind → List ℕ → Terminal
 terminal_by kind.Id w = k.Name

@@ -1,5 +1,5 @@
 -- What words stand for in declarations.
-use Rattle.std.specs.Prelude.{◌≡◌, ℕ, if◌then◌else◌, List, [], ◌∷◌, Option, Some, None, bytes_eq, map}
+use Rattle.std.specs.Prelude.{◌≡◌, ℕ, if◌then◌else◌, List, [], ◌∷◌, Option, Some, None, bytes_eq}
 use Rattle.dc_token.specs.declared.token.Token.{Token}
 use Rattle.dc_ast.specs.declared.word.Storage.{Storage}
 use Rattle.dc_ast.specs.declared.word.Storage.TheVariants as store
@@ -9,8 +9,8 @@ use Rattle.dc_ast.specs.declared.word.Attribute.{Attribute}
 use Rattle.dc_ast.specs.declared.word.Attribute.TheVariants as attribute
 use Rattle.dc_grammar.specs.declared.terminal.Terminal.{Terminal}
 use Rattle.dc_grammar.specs.declared.terminal.Terminal.TheVariants as k
+use Rattle.dc_grammar.specs.Spellings.{at_words}
 use Rattle.dc_grammar.specs.Terminals.{Tokens, terminal_of}
-use Rattle.dc_grammar.specs.declared.attribute.TheConstants.{AT_WORDS}
 
 -- the words of a storage class
 abbrev pub storage : Terminal → Option Storage
@@ -39,7 +39,7 @@ find_attribute (row ∷ rows) w = if bytes_eq row.0 w then Some row.1 else find_
 
 -- the attributes behind an `@`
 unfoldable pub at_word : List ℕ → Option Attribute
-at_word w = find_attribute (map (λ row. (row.0.now, row.1)) AT_WORDS) w
+at_word w = find_attribute at_words w
 
 -- one name, and what its spelling stands for
 pub record Spelt {A : Type 0} (f : List ℕ → Option A) (w : Tokens) (x : A) : Type 0 where

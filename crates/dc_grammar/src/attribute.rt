@@ -65,7 +65,7 @@ fn find_attribute(mut table: &[(&[u8], Attribute)], spelling: &[u8]) -> Option<A
 }
 
 /// The attribute that a word behind an `@` stands for.
-#[tactic(auto, unfolding(crate::specs::Words::at_word))]
+#[tactic(auto, using(crate::proofs::Spelled::at_words_spelled), unfolding(crate::specs::Words::at_word))]
 pub fn at_word(spelling: &[u8]) -> Option<Attribute>
     ensures { result ≡ words.at_word spelling.now }
 {

@@ -1,5 +1,6 @@
 // What holds of the grammar.
 ghost use Rattle.dc_grammar.specs.Nesting.{PastExactly};
+ghost use Rattle.dc_grammar.specs.NewForms.{NewDivides};
 ghost use Rattle.dc_grammar.specs.Reads.{OneTree, ExprFirst};
 ghost use Rattle.dc_grammar.specs.Refusals.{ListsDivide, NearestIf, OneItem, VariableFirst};
 
@@ -37,4 +38,9 @@ pub fn variable_first()
 /// An `else` belongs to the nearest `if`.
 pub fn nearest_if()
     ensures { NearestIf }
+{}
+
+/// What a `new` makes: by `new Type(x)` where a type and one argument stand there, and by `new T[n]` elsewhere.
+pub fn new_divides()
+    ensures { NewDivides }
 {}

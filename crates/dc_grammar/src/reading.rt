@@ -1,5 +1,5 @@
 // What begins at a token.
-ghost use Rattle.std.specs.Prelude.{length, ◌≤◌, IfOk};
+ghost use Rattle.std.specs.Prelude.{IfOk};
 ghost use Rattle.dc_grammar.specs.Grammar.{IsExpr, IsType};
 ghost use Rattle.dc_grammar.specs.Reads.{IsReadAt};
 
@@ -14,15 +14,13 @@ pub enum Read<T> {
     Nothing,
 }
 
-/// Reads expressions and types, for parsers of what holds them.
+/// Reads expressions and types, for parsers of what holds them. Nothing begins at the end of the tokens or behind it.
 pub trait ReadExpr {
     /// The longest expression that begins at the token `from`.
     fn read(&self, tokens: &Tokens, from: usize) -> Result<Read<Expr>, NoMemory>
-        requires { from ≤ length tokens.now }
         ensures { IfOk result (λ found. IsReadAt IsExpr tokens.now from found) };
 
     /// The longest type that begins at the token `from`.
     fn read_type(&self, tokens: &Tokens, from: usize) -> Result<Read<TypeTree>, NoMemory>
-        requires { from ≤ length tokens.now }
         ensures { IfOk result (λ found. IsReadAt IsType tokens.now from found) };
 }

@@ -295,14 +295,14 @@ fn find(mut table: &[(&[u8], Terminal)], spelling: &[u8]) -> Terminal
     Terminal::Outside
 }
 
-#[tactic(auto, unfolding(crate::specs::Terminals::word))]
+#[tactic(auto, using(crate::proofs::Spelled::words_spelled), unfolding(crate::specs::Terminals::word))]
 fn word(spelling: &[u8]) -> Terminal
     ensures { result ≡ terminals.word spelling.now }
 {
     find(&WORDS, spelling)
 }
 
-#[tactic(auto, unfolding(crate::specs::Terminals::sign))]
+#[tactic(auto, using(crate::proofs::Spelled::signs_spelled), unfolding(crate::specs::Terminals::sign))]
 fn sign(spelling: &[u8]) -> Terminal
     ensures { result ≡ terminals.sign spelling.now }
 {

@@ -10,7 +10,7 @@ use crate::declarations::{decls, module};
 use crate::parts::Source;
 use crate::statements::stmts;
 use dc_ast::{Decls, ModuleTree, Stmts};
-use dc_grammar::{ReadExpr, first_outside, first_past};
+use dc_grammar::{Miss, ReadExpr, first_outside, first_past};
 use dc_token::Tokens;
 use dc_types::{Fail, Place, Refusal, Step, Text, copy_place};
 use std::alloc::{AllocError, Global};
@@ -76,8 +76,9 @@ fn whole_module<E: ReadExpr>(source: &Source<'_, E>, at: &Place) -> Result<Modul
 {
     match module(source, 0) {
         Ok((tree, end)) => whole(source, at, tree, end),
-        // Each list may be empty, so nothing but memory can be wanting.
-        Err(_) => Err(Fail::NoMemory),
+        Err(Miss::Memory) => Err(Fail::NoMemory),
+        // A list may be empty, so each text begins with one.
+        Err(Miss::Nothing) => unreachable!(),
     }
 }
 
@@ -86,7 +87,8 @@ fn whole_declarations<E: ReadExpr>(source: &Source<'_, E>, at: &Place) -> Result
 {
     match decls(source, 0) {
         Ok((trees, end)) => whole(source, at, trees, end),
-        Err(_) => Err(Fail::NoMemory),
+        Err(Miss::Memory) => Err(Fail::NoMemory),
+        Err(Miss::Nothing) => unreachable!(),
     }
 }
 
@@ -95,7 +97,8 @@ fn whole_statements<E: ReadExpr>(source: &Source<'_, E>, at: &Place) -> Result<S
 {
     match stmts(source, 0) {
         Ok((trees, end)) => whole(source, at, trees, end),
-        Err(_) => Err(Fail::NoMemory),
+        Err(Miss::Memory) => Err(Fail::NoMemory),
+        Err(Miss::Nothing) => unreachable!(),
     }
 }
 

@@ -15,6 +15,9 @@ pub struct ExprReader {
 impl ReadExpr for ExprReader {
     fn read(&self, tokens: &Tokens, from: usize) -> Result<Read<Expr>, NoMemory> {
         let tokens = tokens.as_slice();
+        if from >= tokens.len() {
+            return Ok(Read::Nothing);
+        }
         let text = &tokens[from..];
         match expr(self.alloc, text, text.len(), Level::Whole) {
             Ok((tree, rest)) => Ok(Read::Found {
@@ -28,6 +31,9 @@ impl ReadExpr for ExprReader {
 
     fn read_type(&self, tokens: &Tokens, from: usize) -> Result<Read<TypeTree>, NoMemory> {
         let tokens = tokens.as_slice();
+        if from >= tokens.len() {
+            return Ok(Read::Nothing);
+        }
         let text = &tokens[from..];
         match type_at(self.alloc, text) {
             Ok((tree, rest)) => Ok(Read::Found {
