@@ -34,8 +34,10 @@ use Rattle.dc_tree.specs.declared.tree.Tree.TheFolds.{map-Tree, fold-roll-Tree, 
 use Rattle.dc_tree.specs.declared.body.Body.{Body}
 use Rattle.dc_lower_expr.specs.Lowered.{Names, Codes, no_code, two_code, each_code, constant_ops, local_ops, assign_ops, binary_ops, chain_code, compare_ops, print_ops, call_ops, tree_code_step, tree_code}
 use Rattle.dc_lower_expr.specs.Frames.{Slotted}
+use Rattle.dc_lower_expr.specs.Follows.{Lowers}
+pub use Rattle.dc_lower_expr.specs.Follows.{CallsFollow}
 use Rattle.dc_lower_expr.proofs.Locals.{some_is, none_some}
-use Rattle.dc_lower_expr.proofs.Follow.{Here, Form, value, pair, unit, Follows, Operates, as_follows, then_follows, with_follows, two_follows, none_follows}
+use Rattle.dc_lower_expr.proofs.Follow.{Here, Form, value, pair, unit, Follows, as_follows, then_follows, with_follows, two_follows, none_follows}
 use Rattle.dc_lower_expr.proofs.Chains.{binary_code, binary_part, nested_code, nested_part, nested_code_is, nested_part_is}
 use Rattle.dc_lower_expr.proofs.Ops.{number, constant_op, local_op, assign_op, binary_op, compare_op}
 use Rattle.dc_lower_expr.proofs.Prints.{values, print_op}
@@ -46,12 +48,6 @@ le_true a b h = grind (arith, ints)
 pub both_true : (a b : Bool) → IsTrue (a && b) → IsTrue a × IsTrue b
 both_true true b h = (refl, h)
 both_true false b h = absurd (true≢false (sym h))
-
--- The machine's calls do what these calls do, where the function has a body and is handed values of its parameters' types.
-abbrev pub CallsFollow : (code : Draft) (limits : Limits) (nest : Nest) (bodies : List Body) (fuel : ℕ) (function : Place → ℕ) → Calls → Type 0
-CallsFollow code limits nest bodies fuel function calls =
-    (h : Here) (vars : List Variable) (place f : Place) (b : Body) → body_at bodies f ≡ Some b →
-    Operates code limits nest h vars fuel (values (types_of b.params)) (value (out-Ty b.result)) (call_ops place (function f)) (calls place f)
 
 -- ---- what a node's type says
 
@@ -308,3 +304,6 @@ module _ (code : Draft) (limits : Limits) (nest : Nest) (h : Here) (vars : List 
 
   pub tree_follows : (e : Tree) → Holds e
   tree_follows = ind-Tree Holds (λ x y is. subst (λ z. Holds (roll-Tree z)) is (rolled _ (layer (λ e. e.0) (λ e. e.1) y)))
+
+pub lowers : Lowers
+lowers = tree_follows

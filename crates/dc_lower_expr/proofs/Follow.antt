@@ -1,67 +1,22 @@
 -- The machine follows a part of a tree.
 use Rattle.std.proofs.Common.{◌≡◌, ℕ, ◌+◌, ◌≤◌, List, [], ◌++◌, length, drop, refl, sym, ap, ap₂, ◌∙◌, subst, arith, append_assoc, length-append, length-drop}
 use Rattle.std.specs.Prelude.{slice_index}
-use Rattle.dc_types.specs.declared.ty.Ty.{Ty}
-use Rattle.dc_types.specs.declared.ty.Ty.TheOpen.{Ty-F}
 use Rattle.dc_types.specs.declared.event.Event.{Event}
 use Rattle.dc_types.specs.declared.event.Limits.{Limits}
-use Rattle.dc_types.specs.declared.value.Value.{Value}
-use Rattle.dc_code.specs.State as machine
-use Rattle.dc_code.specs.State.{Machine, Run, On, Done}
-use Rattle.dc_code.specs.Exec.{first_blocks}
+use Rattle.dc_code.specs.State.{Machine, Run, On}
 use Rattle.dc_code.specs.Blocks.{word_in}
 use Rattle.dc_code.specs.Perform.{with_words}
 use Rattle.dc_code.specs.declared.instr.Instr.{Instr}
 use Rattle.dc_code.specs.declared.run.Nest.{Nest}
-use Rattle.dc_code.specs.declared.run.Caller.{Caller}
 use Rattle.dc_code.specs.declared.code.Draft.{Draft}
-use Rattle.dc_tree.specs.Meaning.{State, End, Gave, Trapped, Bound, Missing, Ran, Goes, Over, Part, and_then, both}
+use Rattle.dc_tree.specs.Meaning.{State, End, Ran, Goes, Over, Part, and_then, both}
 use Rattle.dc_tree.specs.declared.tree.Variable.{Variable}
 use Rattle.dc_lower_expr.specs.Lowered.{Codes, two_code, then_ops}
+use Rattle.dc_lower_expr.specs.Follows as spec
+pub use Rattle.dc_lower_expr.specs.Follows.{Here, front, stop_of, IsStop, Ended, Form, value}
 use Rattle.dc_lower_expr.proofs.Steps.{HasAt, has_front, has_back, Leads, here, leads}
 use Rattle.dc_lower_expr.proofs.Seams.{read_more, put_more}
-use Rattle.dc_lower_expr.specs.Frames.{fine_at, words_at}
 use Rattle.dc_lower_expr.proofs.Locals.{words_of, Good, good_length}
-
--- where a function runs: the words of the frames below its own, and where its callers go on
-pub record Here : Type 0 where
-  pub below : List ℕ
-  pub callers : List Caller
-
-abbrev pub front : Here → State → List ℕ → List ℕ
-front h s temps = (h.below ++ words_of s.locals) ++ temps
-
--- ---- ends
-
--- an end but a value, as the machine has it
-abbrev pub stop_of : End → machine.End
-stop_of (Gave v) = machine.Stuck
-stop_of (Trapped trap place) = machine.Trapped trap place
-stop_of Bound = machine.Bound
-stop_of (Missing f) = machine.Stuck
-
-abbrev pub IsStop : End → Type 0
-IsStop (Gave v) = ⊥
-IsStop (Trapped trap place) = Unit {0}
-IsStop Bound = Unit {0}
-IsStop (Missing f) = Unit {0}
-
-pub record Ended (code : Draft) (limits : Limits) (from : Run) (end : End) (events : List Event) : Type 0 where
-  pub taken : ℕ
-  pub stops : IsStop end
-  pub by : Leads code limits from (Done (stop_of end) events taken)
-
--- ---- results
-
--- a form of results: the words that they take, and what is known of them
-pub record Form : Type 1 where
-  pub A : Type 0
-  pub words : A → List ℕ
-  pub Fine : A → Type 0
-
--- a value of a type
-abbrev pub value : Ty-F Ty → Form
-value x = record { A = Value; words = words_at x; Fine = fine_at x }
 
 abbrev pub pair : Form → Form → Form
 pair F G = record { A = F.A × G.A; words = λ xy. F.words xy.0 ++ G.words xy.1; Fine = λ xy. F.Fine xy.0 × G.Fine xy.1 }
@@ -70,49 +25,27 @@ abbrev pub unit : Form
 unit = record { A = Unit {0}; words = λ a. []; Fine = λ a. Unit {0} }
 
 module _ (code : Draft) (limits : Limits) (nest : Nest) (h : Here) (vars : List Variable) where
-  -- the machine in the function: its memory is a function of the state of the meaning
   abbrev pub having : ℕ → ℕ → State → List ℕ → Machine
-  having pc taken s words = record {
-    pc = pc;
-    words = words;
-    base = length h.below;
-    callers = h.callers;
-    nest = nest;
-    blocks = first_blocks code;
-    cells = 0;
-    pending = [];
-    left = s.left;
-    taken = taken;
-    events = s.events;
-  }
+  having = spec.having code limits nest h vars
 
   abbrev pub at : ℕ → ℕ → State → List ℕ → List ℕ → Machine
-  at pc taken s temps more = having pc taken s (front h s temps ++ more)
+  at = spec.at code limits nest h vars
 
   abbrev pub M : ℕ → ℕ → State → List ℕ → List ℕ → Run
-  M pc taken s temps more = On (at pc taken s temps more)
+  M = spec.M code limits nest h vars
 
-  -- the slots of the variables
   abbrev pub fixed : ℕ
-  fixed = length vars
+  fixed = spec.fixed code limits nest h vars
+
+  abbrev pub Went : (F : Form) (from : Run) (pc : ℕ) (temps : List ℕ) (room before : ℕ) (a : F.A) (s : State) → Type 0
+  Went = spec.Went code limits nest h vars
+
+  abbrev pub Gives : (F : Form) → Run → ℕ → List ℕ → ℕ → ℕ → Ran F.A → Type 0
+  Gives = spec.Gives code limits nest h vars
 
   pub front_length : (s : State) (temps : List ℕ) → Good vars s.locals → length (front h s temps) ≡ length h.below + (fixed + length temps)
   front_length s temps good =
       omega (arith, good_length vars s.locals good, length-append (h.below ++ words_of s.locals) temps, length-append h.below (words_of s.locals))
-
-  -- The machine has come to a place: its memory is that of the state, the temporaries stand, and the result's words follow.
-  pub record Went (F : Form) (from : Run) (pc : ℕ) (temps : List ℕ) (room before : ℕ) (a : F.A) (s : State) : Type 0 where
-    pub rest : List ℕ
-    pub taken : ℕ
-    pub fine : F.Fine a
-    pub good : Good vars s.locals
-    pub fills : length (F.words a) + length rest ≡ room
-    pub ticks : s.left ≤ before
-    pub by : Leads code limits from (M pc taken s temps (F.words a ++ rest))
-
-  abbrev pub Gives : (F : Form) → Run → ℕ → List ℕ → ℕ → ℕ → Ran F.A → Type 0
-  Gives F from pc temps room before (Goes a s) = Went F from pc temps room before a s
-  Gives F from pc temps room before (Over end events) = Ended code limits from end events
 
   pub ended_after : (from mid : Run) (end : End) (events : List Event) → Leads code limits from mid → Ended code limits mid end events → Ended code limits from end events
   ended_after from mid end events l e = record { taken = e.taken; stops = e.stops; by = leads code limits from mid _ l e.by }
@@ -136,19 +69,11 @@ module _ (code : Draft) (limits : Limits) (nest : Nest) (h : Here) (vars : List 
   after F from mid pc pc' temps room room' before before' (Over end events) l e f le g = ended_after from mid end events l g
 
   module _ (fuel : ℕ) where
-    -- the code of a part does what the part does, where at most fuel ticks are left
     abbrev pub Follows : (F : Form) → Codes → ℕ → Part F.A → Type 0
-    Follows F c size m =
-        (pc spare taken : ℕ) (temps more : List ℕ) (s : State) →
-        HasAt code.instrs pc (c pc spare) → spare ≡ fixed + length temps → Good vars s.locals → size ≤ length more → s.left ≤ fuel →
-        Gives F (M pc taken s temps more) (pc + length (c pc spare)) temps (length more) s.left (m s)
+    Follows = spec.Follows code limits nest h vars fuel
 
-    -- instructions on the words of a result, of which there are some more behind
     abbrev pub Operates : (F G : Form) → (ℕ → List Instr) → (F.A → Part G.A) → Type 0
-    Operates F G ops go =
-        (pc spare taken : ℕ) (temps rest : List ℕ) (s : State) (a : F.A) →
-        HasAt code.instrs pc (ops spare) → spare ≡ fixed + length temps → Good vars s.locals → F.Fine a → 5 ≤ length (F.words a ++ rest) → s.left ≤ fuel →
-        Gives G (M pc taken s temps (F.words a ++ rest)) (pc + length (ops spare)) temps (length (F.words a ++ rest)) s.left (go a s)
+    Operates = spec.Operates code limits nest h vars fuel
 
     -- the same of equal codes and parts, with more room
     pub as_follows : (F : Form) (c c' : Codes) (size size' : ℕ) (m m' : Part F.A) → ((pc spare : ℕ) → c pc spare ≡ c' pc spare) → ((s : State) → m s ≡ m' s) → size ≤ size' → Follows F c size m → Follows F c' size' m'

@@ -1,5 +1,5 @@
 -- Variables and their words.
-use Rattle.std.proofs.Common.{◌≡◌, ℕ, suc, Bool, true, false, List, [], ◌∷◌, ◌++◌, length, map, Option, Some, None, refl, sym, ap, ◌∙◌, subst, arith}
+use Rattle.std.proofs.Common.{◌≡◌, ℕ, suc, Bool, true, false, List, [], ◌∷◌, ◌++◌, length, Option, Some, None, refl, sym, ap, ◌∙◌, subst, arith}
 use Rattle.std.specs.Prelude.{if◌then◌else◌}
 use Rattle.dc_types.specs.declared.place.Place.{Place}
 use Rattle.dc_types.specs.declared.ty.Ty.{Ty}
@@ -10,20 +10,7 @@ use Rattle.dc_tree.specs.Meaning.{Held, value_at, with_value}
 use Rattle.dc_tree.specs.Typed.{type_at}
 use Rattle.dc_tree.specs.declared.tree.Variable.{Variable}
 use Rattle.dc_lower_expr.specs.Frames.{slot_of, word, fine_at}
-
-abbrev pub words_of : List Held → List ℕ
-words_of hs = map (λ h. word h.value) hs
-
-pub record Fits (v : Variable) (h : Held) : Type 0 where
-  pub place : h.place ≡ v.place
-  pub fine : fine_at (out-Ty v.ty) h.value
-
--- the variables hold values of their types
-abbrev pub Good : List Variable → List Held → Type 0
-Good [] [] = Unit {0}
-Good (v ∷ vs) (h ∷ hs) = Fits v h × Good vs hs
-Good [] (h ∷ hs) = ⊥
-Good (v ∷ vs) [] = ⊥
+pub use Rattle.dc_lower_expr.specs.Follows.{words_of, Fits, Good}
 
 pub good_length : (vs : List Variable) (hs : List Held) → Good vs hs → length (words_of hs) ≡ length vs
 good_length [] [] g = refl

@@ -2,16 +2,13 @@
 use Rattle.std.proofs.Common.{◌≡◌, ℕ, ◌+◌, ◌≤◌, Bool, true, false, List, [], ◌∷◌, ◌++◌, length, map, drop, Some, refl, sym, ap, ap₂, ◌∙◌, subst, arith, append_assoc, append-nil, length-append, length-drop}
 use Rattle.std.proofs.lemmas.List.{get_or_at}
 use Rattle.std.specs.Prelude.{slice_index, slice_get, if◌then◌else◌}
-use Rattle.dc_types.specs.declared.kind.Kind.{Kind}
 use Rattle.dc_types.specs.declared.kind.Kind.TheVariants as kind
 use Rattle.dc_types.specs.declared.place.Place.{Place}
 use Rattle.dc_types.specs.declared.ty.Ty.{Ty}
 use Rattle.dc_types.specs.declared.ty.Ty.TheOpen.{Ty-F}
-use Rattle.dc_types.specs.declared.ty.Ty.TheViews.{out-Ty}
 use Rattle.dc_types.specs.declared.value.Value.{Value}
 use Rattle.dc_types.specs.declared.event.Event.TheVariants.{Print}
 use Rattle.dc_types.specs.declared.event.Limits.{Limits}
-use Rattle.dc_types.specs.Integers.{InKind}
 use Rattle.dc_code.specs.State.{Machine, On}
 use Rattle.dc_code.specs.Numbers.{text_of}
 use Rattle.dc_code.specs.Exec.{first_blocks}
@@ -28,23 +25,8 @@ use Rattle.dc_lower_expr.proofs.Seams.{put_more}
 use Rattle.dc_lower_expr.proofs.Words.{same_text, line_text}
 use Rattle.dc_lower_expr.specs.Frames.{word}
 use Rattle.dc_lower_expr.proofs.Locals.{Good}
-use Rattle.dc_lower_expr.proofs.Follow.{Here, front, having, Form, value, M, Went, Operates, fixed, front_length, operand, after}
-
--- a value that is a number of the kind that its type says
-pub record IsNumber (ty : Ty) (v : Value) : Type 0 where
-  pub kind : Kind
-  pub is : out-Ty ty ≡ Ty-F.Int kind
-  pub fine : InKind kind (number_in v)
-
-abbrev pub AreFine : List Ty → List Value → Type 0
-AreFine [] [] = Unit {0}
-AreFine (ty ∷ tys) (v ∷ vs) = IsNumber ty v × AreFine tys vs
-AreFine [] (v ∷ vs) = ⊥
-AreFine (ty ∷ tys) [] = ⊥
-
--- numbers of these types
-abbrev pub values : List Ty → Form
-values tys = record { A = List Value; words = map word; Fine = AreFine tys }
+pub use Rattle.dc_lower_expr.specs.Follows.{IsNumber, AreFine, values}
+use Rattle.dc_lower_expr.proofs.Follow.{Here, front, having, value, M, Went, Operates, fixed, front_length, operand, after}
 
 module _ (code : Draft) (limits : Limits) (nest : Nest) (h : Here) (vars : List Variable) (fuel : ℕ) where
   -- the machine with some text pending

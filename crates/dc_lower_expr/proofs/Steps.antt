@@ -8,11 +8,7 @@ use Rattle.dc_code.specs.State.{Machine, Run, On}
 use Rattle.dc_code.specs.Exec.{does, at_instr, steps}
 use Rattle.dc_code.specs.declared.instr.Instr.{Instr}
 use Rattle.dc_code.specs.declared.code.Draft.{Draft}
-
--- the instructions stand in the list at this place
-abbrev pub HasAt : List Instr → ℕ → List Instr → Type 0
-HasAt code pc [] = Unit {0}
-HasAt code pc (i ∷ is) = (slice_get code pc ≡ Some i) × HasAt code (pc + 1) is
+pub use Rattle.dc_lower_expr.specs.Follows.{HasAt, Leads}
 
 pub has_front : (code : List Instr) (pc : ℕ) (a b : List Instr) → HasAt code pc (a ++ b) → HasAt code pc a
 has_front code pc [] b h = tt
@@ -33,10 +29,6 @@ has_all (i ∷ is) pre =
     let rest = has_all is (pre ++ i ∷ []) in
     let rest' = subst (λ l. HasAt l (length (pre ++ i ∷ [])) is) (append_assoc pre (i ∷ []) is) rest in
     (here, subst (λ m. HasAt (pre ++ i ∷ is) m is) n rest')
-
--- A run comes to another: for each number of steps from there, a number of steps from here gives the same.
-pub record Leads (code : Draft) (limits : Limits) (from to : Run) : Type 0 where
-  pub by : (k : ℕ) → (j : ℕ) × (steps code limits j from ≡ steps code limits k to)
 
 module _ (code : Draft) (limits : Limits) where
   pub here : (a b : Run) → a ≡ b → Leads code limits a b

@@ -1,3 +1,4 @@
 pub mod Lowered
 pub mod Frames
 pub mod Slots
+pub mod Follows

@@ -6,7 +6,7 @@ mod slots;
 mod table;
 mod word;
 
-pub use lower::{lower_at, lower_expr, put_op};
+pub use lower::{lower_at, lower_expr, lowering_law, put_op};
 pub use slots::Slots;
 pub use table::Table;
 

@@ -4,6 +4,7 @@ ghost use Rattle.dc_tree.specs.Weight.{sum, operations_weight, tree_weight};
 ghost use Rattle.dc_tree.specs.Nodes.{operation_with};
 ghost use Rattle.dc_lower_expr.specs.Lowered.{instr, each_code, operations_code, put_ops, line_ops, print_ops, tree_code};
 ghost use Rattle.dc_lower_expr.specs.Slots.{names_of};
+ghost use Rattle.dc_lower_expr.specs.Follows.{Lowers};
 
 use crate::Slots;
 use crate::word::{kind_of, number, word};
@@ -181,3 +182,9 @@ pub fn lower_expr(alloc: Global, t: &Tree, at: &Slots, draft: &mut Draft) -> Res
 {
     lower_at(alloc, t, at, at.spare, &mut draft.instrs)
 }
+
+/// The law of the code of expressions: it does what the expression means, its temporaries and its value stand from the first
+/// spare slot on, and it asks for no more words than the expression weighs.
+pub fn lowering_law()
+    ensures { Lowers }
+{}
