@@ -9,3 +9,4 @@ pub mod TypedPrograms
 pub mod Literals
 pub mod Bodies
 pub mod Loops
+pub mod Lawful

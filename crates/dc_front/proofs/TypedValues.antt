@@ -32,7 +32,7 @@ use Rattle.dc_ast.specs.declared.name.Name.{Name}
 use Rattle.dc_front.specs.Operators.{resolved}
 use Rattle.dc_front.specs.Building.{is_some}
 use Rattle.dc_front.specs.Naming.{find, name_of_local, visible, named}
-use Rattle.dc_front.specs.Judging.{Judged, go_on, refuse, place_in, number_in, truth, variable_in, result_of, print_of, no_value, variable_by, variable_of, print_by, callee_by, callee_of, Part, Linked, each_argument, each_operand, no_arguments, no_operands, function_call, print_call, called, chain_of, chained, local_of, constant_of, literal_of, value_step, part, linked, typed_of, arguments_of, int_by, begins_at, int_of, compared, condition_of}
+use Rattle.dc_front.specs.Judging.{Judged, go_on, refuse, place_in, number_in, truth, variable_in, result_of, print_of, no_such, no_value, variable_by, variable_of, print_by, callee_by, callee_of, Part, Linked, each_argument, each_operand, no_arguments, no_operands, function_call, print_call, called, chain_of, chained, local_of, constant_of, literal_of, value_step, part, linked, typed_of, arguments_of, int_by, begins_at, int_of, compared, condition_of}
 use Rattle.dc_front.specs.declared.built.Arithmetic.{Arithmetic}
 use Rattle.dc_front.specs.declared.built.Arithmetic.TheVariants as arithmetic
 use Rattle.dc_front.specs.declared.built.Function.{Function}
@@ -276,7 +276,7 @@ module _ (k : Known) (bodies : List Body) (vars : List Variable) where
         let o = other (is_some (visible name.spelling locals)) (callee_by k name (named name.spelling k.functions)) c (refuse k 10 name.at []) e in
         by_name (named name.spelling k.functions) refl o.1 where
           by_print : (p : Option Bool) → print_by k name p ≡ Ok c → Calls c
-          by_print None e = no_ok (refuse k 5 name.at name.spelling) c e
+          by_print None e = no_ok (no_such k name) c e
           by_print (Some line) e = subst Calls (ok_is (callee.Print line) c e) tt
 
           by_name : (o : Option Function) → named name.spelling k.functions ≡ o → callee_by k name o ≡ Ok c → Calls c

@@ -82,9 +82,17 @@ print_of k q =
     else if k.prints && bytes_eq q (codes "write") then Some false
     else None
 
--- the name of a function, which is no value, or a name that isn't there
+-- whether a name stands for a type of the language, or begins the name of the module that is imported
+unfoldable pub is_other : Known → List ℕ → Bool
+is_other k q = bytes_eq q (codes "string") || (bytes_eq q (codes "size_t") || (k.prints && bytes_eq q (codes "std")))
+
+-- a name that stands for something else than what is wanted, or for nothing
+unfoldable pub no_such : Known → Name → Refusal
+no_such k name = if is_other k name.spelling then refuse k 10 name.at [] else refuse k 5 name.at name.spelling
+
+-- the name of a function, which is no value, or of none
 unfoldable pub no_value : Known → Name → Refusal
-no_value k name = if is_some (named name.spelling k.functions) || is_some (print_of k name.spelling) then refuse k 10 name.at [] else refuse k 5 name.at name.spelling
+no_value k name = if is_some (named name.spelling k.functions) || is_some (print_of k name.spelling) then refuse k 10 name.at [] else no_such k name
 
 abbrev pub variable_by : Known → Name → Option ℕ → Judged ℕ
 variable_by k name (Some at) = Ok at
@@ -96,7 +104,7 @@ variable_of k locals name = variable_by k name (visible name.spelling locals)
 
 abbrev pub print_by : Known → Name → Option Bool → Judged Callee
 print_by k name (Some line) = Ok (callee.Print line)
-print_by k name None = Err (refuse k 5 name.at name.spelling)
+print_by k name None = Err (no_such k name)
 
 abbrev pub callee_by : Known → Name → Option Function → Judged Callee
 callee_by k name (Some f) = Ok (callee.Declared f.at (length f.parameters) f.gives_int)

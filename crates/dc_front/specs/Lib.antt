@@ -6,3 +6,4 @@ pub mod Judging
 pub mod JudgingStatements
 pub mod Operators
 pub mod Front
+pub mod Refusals

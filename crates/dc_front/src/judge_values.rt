@@ -3,7 +3,7 @@ ghost use Rattle.std.specs.Prelude.{◌≡◌, map, Err, IfOk};
 ghost use Rattle.dc_tree.specs.Values.{int};
 ghost use Rattle.dc_tree.specs.declared.tree.Tree.TheVariants as tree;
 ghost use Rattle.dc_types.specs.declared.kind.Kind.TheVariants as kind;
-ghost use Rattle.dc_front.specs.Judging.{Answers, local_of, constant_of, literal_of, place_in, refuse, number_in, truth, variable_in, result_of, print_of, no_value, variable_of, callee_of, function_call, print_call, called, chain_of, chained, typed_of, arguments_of, operands_of, begins_at, int_of, compared, condition_of};
+ghost use Rattle.dc_front.specs.Judging.{Answers, local_of, constant_of, literal_of, place_in, refuse, number_in, truth, variable_in, result_of, print_of, is_other, no_such, no_value, variable_of, callee_of, function_call, print_call, called, chain_of, chained, typed_of, arguments_of, operands_of, begins_at, int_of, compared, condition_of};
 
 use crate::judged::{Arguments, Callee, Known, Operands, Typed};
 use crate::{Link, Scope, Test, Value};
@@ -73,6 +73,30 @@ fn print_of(known: &Known, name: &Spelling) -> Option<bool>
     }
 }
 
+/// Whether the name stands for a type of the language, or begins the name of the module that is imported (D specification,
+/// "Types", "Modules").
+#[tactic(auto, unfolding(crate::specs::Judging::is_other))]
+fn is_other(known: &Known, name: &Spelling) -> bool
+    ensures { result ≡ is_other known.now name.now }
+{
+    let name = name.as_slice();
+    name == b"string".as_slice()
+        || name == b"size_t".as_slice()
+        || (known.prints && name == b"std".as_slice())
+}
+
+/// The refusal of a name that stands for something else than what is wanted, or for nothing.
+#[tactic(auto, unfolding(crate::specs::Judging::no_such))]
+fn no_such<T>(alloc: Global, known: &Known, name: &Name) -> Result<T, Fail>
+    ensures { Answers (Err (no_such known.now name.now)) result }
+{
+    if is_other(known, &name.spelling) {
+        refuse(alloc, known, 10, name.at, &[])
+    } else {
+        refuse(alloc, known, 5, name.at, name.spelling.as_slice())
+    }
+}
+
 #[tactic(auto, unfolding(crate::specs::Judging::no_value))]
 fn no_value<T>(alloc: Global, known: &Known, name: &Name) -> Result<T, Fail>
     ensures { Answers (Err (no_value known.now name.now)) result }
@@ -81,7 +105,7 @@ fn no_value<T>(alloc: Global, known: &Known, name: &Name) -> Result<T, Fail>
     if is_function || print_of(known, &name.spelling).is_some() {
         refuse(alloc, known, 10, name.at, &[])
     } else {
-        refuse(alloc, known, 5, name.at, name.spelling.as_slice())
+        no_such(alloc, known, name)
     }
 }
 
@@ -109,7 +133,7 @@ pub fn callee_of(alloc: Global, known: &Known, scope: &Scope, name: &Name) -> Re
     }
     match print_of(known, &name.spelling) {
         Some(line) => Ok(Callee::Print(line)),
-        None => refuse(alloc, known, 5, name.at, name.spelling.as_slice()),
+        None => no_such(alloc, known, name),
     }
 }
 

@@ -8,6 +8,7 @@ mod judge_programs;
 mod judge_statements;
 mod judge_values;
 mod judged;
+mod laws;
 mod miss;
 mod programs;
 mod scope;
@@ -20,5 +21,6 @@ pub use functions::Functions;
 pub use judged::{
     Arguments, Callee, Chosen, Known, Moved, Operands, Resolution, State, Stepped, Typed,
 };
+pub use laws::refusal_law;
 pub use miss::Miss;
 pub use scope::{Local, Scope};

@@ -346,6 +346,22 @@ fn values_are_judged(rt: HostRuntime) -> Result<(), Fail> {
             b"refused: rule 10 types at a:1:25\n",
         ),
         broken(
+            b"void main(){ int x = size_t; }",
+            b"refused: rule 10 types at a:1:22\n",
+        ),
+        broken(
+            b"void main(){ string(1); }",
+            b"refused: rule 10 types at a:1:14\n",
+        ),
+        broken(
+            b"import std.stdio; void main(){ int x = std; }",
+            b"refused: rule 10 types at a:1:40\n",
+        ),
+        broken(
+            b"void main(){ int x = std; }",
+            b"refused: rule 5 not found at a:1:22: std\n",
+        ),
+        broken(
             b"void f(int n){ n = g; } void g(){} void main(){}",
             b"refused: rule 10 types at a:1:20\n",
         ),
