@@ -2,6 +2,7 @@ pub mod Integers
 pub mod Values
 pub mod Counting
 pub mod Settling
+pub mod Copying
 pub mod Starting
 pub mod Joining
 pub mod Turning

@@ -16,6 +16,10 @@ use Rattle.dc_types.specs.declared.layout.Field.{Field}
 abbrev pub at : {X : Type 0} → List (Place × X) → Place → Option X
 at entries p = lookup (is_at ((place_ord.ghosts).cmp p)) entries
 
+-- the entries of an ordered map with another value at the place
+abbrev pub put : {X : Type 0} → List (Place × X) → Place → X → List (Place × X)
+put entries p x = insert_entry (place_ord.ghosts).cmp entries p x
+
 -- structs with their fields, by their places
 abbrev pub Structs : Type 0
 Structs = List (Place × List Field)

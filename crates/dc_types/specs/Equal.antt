@@ -1,10 +1,10 @@
 -- The comparisons that are derived are exact.
-use Rattle.std.proofs.Common.{rules, ◌≡◌, ◌∙◌, refl, sym, ap, subst, ℕ, List, Bool, true, ◌&&◌, ◌==◌}
+use Rattle.std.proofs.Common.{rules, ◌≡◌, ◌∙◌, refl, ap, subst, ℕ, List, Bool, true, ◌&&◌, ◌==◌}
 use Rattle.std.specs.Bool.{Decides, beq}
 use Rattle.std.specs.Cmp.{booleans_Decides}
 use Rattle.std.specs.Str.{bytes_eq}
-use Rattle.std.specs.Ordering.{int_eq}
 use Rattle.std.specs.Cmp.Lexicographic.{pointwise}
+use Rattle.dc_types.specs.declared.layout.Field.{Field}
 use Rattle.std.proofs.lemmas.Bool.Decides.{Decides-eqb, Decides-and, Decides-like}
 use Rattle.std.proofs.lemmas.Slice.Eq.{bytes_eq-Decides, slice_eq-Decides}
 use denote.Enum.Bare.{sameb, same_true}
@@ -13,11 +13,7 @@ use Rattle.dc_types.specs.contracts.question.Asked.{the_type as askings}
 use Rattle.dc_types.specs.contracts.pattern.IsBy.{the_type as comparings}
 use Rattle.dc_types.specs.declared.event.TrapKind.{TrapKind}
 use Rattle.dc_types.specs.declared.event.TrapKind.TheVariants as trap_kind
-use Rattle.dc_types.specs.declared.event.Trap.{Trap}
-use Rattle.dc_types.specs.declared.event.Event.{Event}
 use Rattle.dc_types.specs.declared.event.Limits.{Limits}
-use Rattle.dc_types.specs.declared.event.CallCount.{CallCount}
-use Rattle.dc_types.specs.declared.event.ProbeState.{ProbeState}
 use Rattle.dc_types.specs.declared.event.ProbeState.TheVariants as states
 use Rattle.dc_types.specs.declared.event.Event.TheVariants as events
 use Rattle.dc_types.specs.declared.question.Asked.{Asked}
@@ -28,10 +24,7 @@ use Rattle.dc_types.specs.declared.place.Step.{Step}
 use Rattle.dc_types.specs.declared.place.Step.TheVariants as steps
 use Rattle.dc_types.specs.contracts.place.StepPartialEq.TheImpl as step_eq
 use Rattle.dc_types.specs.declared.place.Place.{Place}
-use Rattle.dc_types.specs.declared.constant.Const.{Const}
-use Rattle.dc_types.specs.declared.arg.Arg.{Arg}
 use Rattle.dc_types.specs.declared.arg.Arg.TheVariants as args
-use Rattle.dc_types.specs.declared.arg.Takes.{Takes}
 use Rattle.dc_types.specs.declared.arg.Takes.TheVariants as takings
 use Rattle.dc_types.specs.declared.arg.Param.{Param}
 use Rattle.dc_types.specs.declared.pattern.IsForm.{IsForm}
@@ -45,10 +38,12 @@ use Rattle.dc_types.specs.contracts.arg.BindingPartialEq.TheImpl as binding_eq
 use Rattle.dc_types.specs.contracts.candidate.CallParamPartialEq.TheImpl as call_param_eq
 use Rattle.dc_types.specs.contracts.candidate.CandidatePartialEq.TheImpl as candidate_eq
 use Rattle.dc_types.specs.contracts.layout.FieldPartialEq.TheImpl as field_eq
+use Rattle.dc_types.specs.declared.layout.LayoutDraft.{LayoutDraft}
+use Rattle.dc_types.specs.contracts.layout.LayoutDraftPartialEq.TheImpl as layout_draft_eq
+use Rattle.dc_types.specs.contracts.layout.LayoutsPartialEq.TheImpl as layouts_eq
 use Rattle.dc_types.specs.contracts.pattern.IsFormPartialEq.TheImpl as is_form_eq
 use Rattle.dc_types.specs.contracts.question.QuestionPartialEq.TheImpl as question_eq
 use Rattle.dc_types.specs.contracts.refusal.RefusalPartialEq.TheImpl as refusal_eq
-use Rattle.dc_types.specs.declared.refusal.Fail.{Fail}
 use Rattle.dc_types.specs.declared.refusal.Fail.TheVariants as failures
 use Rattle.dc_types.specs.contracts.refusal.FailPartialEq.TheImpl as fail_eq
 use Rattle.dc_types.specs.contracts.file.FilePartialEq.TheImpl as file_eq
@@ -67,14 +62,14 @@ use Rattle.dc_types.specs.contracts.event.CallCountPartialEq.TheImpl as call_cou
 use Rattle.dc_types.specs.contracts.event.ProbeStatePartialEq.TheImpl as probe_state_eq
 use Rattle.dc_types.specs.contracts.event.LimitsPartialEq.TheImpl as limits_eq
 use Rattle.dc_types.specs.Same as same
-use Rattle.dc_types.specs.Exact.{both-Decides, three-Decides, kind-Decides, place-Decides, ty-Decides, tree-Decides, pattern-Decides, value-Decides, source-Decides, span-Decides, range-Decides, numbers-Decides}
+use Rattle.dc_types.specs.Exact.{both-Decides, three-Decides, ty-Decides, tree-Decides, pattern-Decides, value-Decides, source-Decides, span-Decides, range-Decides, numbers-Decides}
 
 -- the test answers true exactly for equal values
 abbrev pub IsExact : {A : Type 0} → (A → A → Bool) → Type 0
 IsExact {A} test = (a b : A) → Decides (test a b) (a ≡ b)
 
 -- the test of two lists by that of their items is exact where that one is
-of_lists : {A : Type 0} (test : A → A → Bool) → IsExact test → IsExact (pointwise test)
+pub of_lists : {A : Type 0} (test : A → A → Bool) → IsExact test → IsExact (pointwise test)
 of_lists test exact a b = slice_eq-Decides exact a b (pointwise test a b) refl
 
 abbrev step_test : Step → Step → Bool
@@ -143,6 +138,35 @@ pub fields : IsExact ((field_eq.ghosts).eq)
 fields a b =
     three-Decides (λ n t s. record { name = n; ty = t; start = s }) (λ f. f.name) (λ f. f.ty) (λ f. f.start) (λ f. refl) a b
     (bytes_eq a.name b.name) (same.ty a.ty b.ty) ((const_eq.ghosts).eq a.start b.start) (bytes_eq-Decides a.name b.name) (ty-Decides a.ty b.ty) (consts a.start b.start)
+
+-- what stands at places, by the test of what stands at each
+abbrev by_entry : {A : Type 0} → (A → A → Bool) → List (Place × A) → List (Place × A) → Bool
+by_entry test = pointwise (λ p q. place_test p.0 q.0 && test p.1 q.1)
+
+of_entries : {A : Type 0} (test : A → A → Bool) → IsExact test → IsExact (by_entry test)
+of_entries {A} test exact =
+    of_lists (λ (p q : Place × A). place_test p.0 q.0 && test p.1 q.1)
+    (λ p q. both-Decides (λ x y. (x, y)) (λ e. e.0) (λ e. e.1) (λ e. refl) p q (place_test p.0 q.0) (test p.1 q.1) (places p.0 q.0) (exact p.1 q.1))
+
+abbrev fields_test : List Field → List Field → Bool
+fields_test = pointwise ((field_eq.ghosts).eq)
+
+field_lists : IsExact fields_test
+field_lists = of_lists ((field_eq.ghosts).eq) fields
+
+-- Two drafts are equal where they have the same structs and the same enums, however their maps are laid out.
+abbrev pub DraftsAreExact : Type 0
+DraftsAreExact = (a b : LayoutDraft) → Decides ((layout_draft_eq.ghosts).eq a b) ((a.structs.entries ≡ b.structs.entries) × (a.enums.entries ≡ b.enums.entries))
+
+pub layout_drafts : DraftsAreExact
+layout_drafts a b =
+    Decides-and (by_entry fields_test a.structs.entries b.structs.entries) (by_entry ((const_eq.ghosts).eq) a.enums.entries b.enums.entries)
+    (of_entries fields_test field_lists a.structs.entries b.structs.entries) (of_entries ((const_eq.ghosts).eq) consts a.enums.entries b.enums.entries)
+
+pub layouts : IsExact ((layouts_eq.ghosts).eq)
+layouts a b =
+    both-Decides (λ s e. (s, e)) (λ l. l.0) (λ l. l.1) (λ l. refl) a b (by_entry fields_test a.0 b.0) (by_entry ((const_eq.ghosts).eq) a.1 b.1)
+    (of_entries fields_test field_lists a.0 b.0) (of_entries ((const_eq.ghosts).eq) consts a.1 b.1)
 
 -- a comparison of variants without contents
 bare_asked : (a : Asked) → sameb askings a a ≡ true

@@ -1,5 +1,6 @@
 // Laws of the plain data.
-ghost use Rattle.dc_types.specs.Equal.{IsExact};
+ghost use Rattle.std.specs.Cmp.Lexicographic.{pointwise};
+ghost use Rattle.dc_types.specs.Equal.{IsExact, DraftsAreExact};
 ghost use Rattle.dc_types.specs.Ordered.{StepOrder, PlaceOrder, QuestionOrder};
 ghost use Rattle.dc_types.specs.contracts.place.PlacePartialEq.TheImpl as place_eq;
 ghost use Rattle.dc_types.specs.contracts.constant.ConstPartialEq.TheImpl as const_eq;
@@ -10,6 +11,7 @@ ghost use Rattle.dc_types.specs.contracts.arg.BindingPartialEq.TheImpl as bindin
 ghost use Rattle.dc_types.specs.contracts.candidate.CallParamPartialEq.TheImpl as call_param_eq;
 ghost use Rattle.dc_types.specs.contracts.candidate.CandidatePartialEq.TheImpl as candidate_eq;
 ghost use Rattle.dc_types.specs.contracts.layout.FieldPartialEq.TheImpl as field_eq;
+ghost use Rattle.dc_types.specs.contracts.layout.LayoutsPartialEq.TheImpl as layouts_eq;
 ghost use Rattle.dc_types.specs.contracts.pattern.IsFormPartialEq.TheImpl as is_form_eq;
 ghost use Rattle.dc_types.specs.contracts.question.QuestionPartialEq.TheImpl as question_eq;
 ghost use Rattle.dc_types.specs.contracts.refusal.RefusalPartialEq.TheImpl as refusal_eq;
@@ -72,6 +74,13 @@ pub fn comparison_laws()
     ensures texts { IsExact ((text_eq.ghosts).eq) }
     ensures files { IsExact ((file_eq.ghosts).eq) }
     ensures fails { IsExact ((fail_eq.ghosts).eq) }
+    ensures layout_drafts { DraftsAreExact }
+    ensures layouts { IsExact ((layouts_eq.ghosts).eq) }
+{}
+
+/// The comparison of two lists is exact where that of their items is.
+pub fn list_law<T: PartialEq>()
+    ensures { IsExact T.eq → IsExact (pointwise T.eq) }
 {}
 
 /// The comparisons of variants without contents are exact, and so is that of lengths.

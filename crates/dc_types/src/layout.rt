@@ -40,7 +40,7 @@ pub fn copy_fields(alloc: Global, fields: &Fields) -> Result<Fields, AllocError>
 }
 
 /// Structs with their fields, and enums with their first members, by their places.
-#[derive(Debug, Drop)]
+#[derive(Debug, Drop, PartialEq, Eq)]
 pub struct LayoutDraft {
     pub structs: BTreeMap<Place, Fields>,
     pub enums: BTreeMap<Place, Const>,
@@ -271,6 +271,96 @@ fn table(
         }
         waiting = still;
     }
+}
+
+fn put<V: Drop>(map: &mut BTreeMap<Place, V>, at: Place, value: V) -> Result<(), AllocError>
+    ensures { IfOk result (λ _. map.new.entries ≡ cells.put map.old.entries at value) }
+{
+    map.insert(at, value)?;
+    Ok(())
+}
+
+/// A copy with equal entries.
+fn copy_structs(
+    alloc: Global,
+    structs: &BTreeMap<Place, Fields>,
+) -> Result<BTreeMap<Place, Fields>, AllocError>
+    ensures { IfOk result (λ copy. copy.entries ≡ structs.now.entries) }
+{
+    let mut copy = BTreeMap::new(alloc);
+    for (at, fields) in structs.iter() {
+        put(
+            &mut copy,
+            copy_place(alloc, at)?,
+            copy_fields(alloc, fields)?,
+        )?;
+    }
+    Ok(copy)
+}
+
+/// A copy with equal entries.
+fn copy_enums(
+    alloc: Global,
+    enums: &BTreeMap<Place, Const>,
+) -> Result<BTreeMap<Place, Const>, AllocError>
+    ensures { IfOk result (λ copy. copy.entries ≡ enums.now.entries) }
+{
+    let mut copy = BTreeMap::new(alloc);
+    for (at, first) in enums.iter() {
+        put(&mut copy, copy_place(alloc, at)?, copy_const(alloc, first)?)?;
+    }
+    Ok(copy)
+}
+
+/// A copy with equal structs and enums.
+pub fn copy_layout_draft(alloc: Global, draft: &LayoutDraft) -> Result<LayoutDraft, AllocError>
+    ensures { IfOk result (λ copy. (copy.structs.entries ≡ draft.now.structs.entries) × (copy.enums.entries ≡ draft.now.enums.entries)) }
+{
+    Ok(LayoutDraft {
+        structs: copy_structs(alloc, &draft.structs)?,
+        enums: copy_enums(alloc, &draft.enums)?,
+    })
+}
+
+/// A copy that is equal.
+pub fn copy_layouts(alloc: Global, layouts: &Layouts) -> Result<Layouts, AllocError>
+    ensures { IfOk result (λ copy. copy ≡ layouts.now) }
+{
+    LayoutDraft {
+        structs: copy_structs(alloc, &layouts.structs)?,
+        enums: copy_enums(alloc, &layouts.enums)?,
+    }
+    .finish(alloc)
+}
+
+impl PartialEq for Layouts {
+    ghost use Rattle.std.specs.Prelude.{◌&&◌};
+    ghost use Rattle.std.specs.Cmp.{on_per, and_per};
+    ghost use Rattle.std.specs.Cmp.Lexicographic.{pointwise, lists_per};
+    ghost use Rattle.dc_types.specs.contracts.place.PlacePartialEq.TheImpl as place_eq;
+    ghost use Rattle.dc_types.specs.contracts.constant.ConstPartialEq.TheImpl as const_eq;
+    ghost use Rattle.dc_types.specs.contracts.layout.FieldPartialEq.TheImpl as field_eq;
+    ghost use Rattle.dc_types.specs.contracts.place.PlacePartialEq.TheImpl.Laws as place_laws;
+    ghost use Rattle.dc_types.specs.contracts.constant.ConstPartialEq.TheImpl.Laws as const_laws;
+    ghost use Rattle.dc_types.specs.contracts.layout.FieldPartialEq.TheImpl.Laws as field_laws;
+
+    ghost eq = { λ a b. pointwise (λ p q. (place_eq.ghosts).eq p.0 q.0 && pointwise (field_eq.ghosts).eq p.1 q.1) a.0 b.0 && pointwise (λ p q. (place_eq.ghosts).eq p.0 q.0 && (const_eq.ghosts).eq p.1 q.1) a.1 b.1 };
+
+    ghost laws = { and_per (on_per (λ l. l.0) (lists_per (and_per (on_per (λ p. p.0) place_laws.laws-law) (on_per (λ p. p.1) (lists_per field_laws.laws-law))))) (on_per (λ l. l.1) (lists_per (and_per (on_per (λ p. p.0) place_laws.laws-law) (on_per (λ p. p.1) const_laws.laws-law)))) };
+
+    fn eq(&self, other: &Layouts) -> bool {
+        self.structs == other.structs && self.enums == other.enums
+    }
+}
+
+impl Eq for Layouts {
+    ghost use Rattle.std.specs.Cmp.{on_equiv, and_equiv};
+    ghost use Rattle.std.specs.Cmp.Lexicographic.{lists_equiv};
+    ghost use Rattle.dc_types.specs.contracts.place.PlaceEq.TheImpl.Laws as place_laws;
+    ghost use Rattle.dc_types.specs.contracts.constant.ConstEq.TheImpl.Laws as const_laws;
+    ghost use Rattle.dc_types.specs.contracts.layout.FieldEq.TheImpl.Laws as field_laws;
+
+    ghost laws = { and_equiv (on_equiv (λ l. l.0) (lists_equiv (and_equiv (on_equiv (λ p. p.0) place_laws.laws-law) (on_equiv (λ p. p.1) (lists_equiv field_laws.laws-law))))) (on_equiv (λ l. l.1) (lists_equiv (and_equiv (on_equiv (λ p. p.0) place_laws.laws-law) (on_equiv (λ p. p.1) const_laws.laws-law)))) };
 }
 
 impl LayoutDraft {

@@ -196,7 +196,7 @@ static STRUCTS: [(&[u8], &[&[u8]]); 9] = [
     (b"a:8", &[b"$a:20<a:1>={0,[0,0,0],[]}", b"bool=1"]),
 ];
 
-fn layouts(alloc: Global) -> Result<Layouts, NoMemory> {
+fn draft(alloc: Global) -> Result<LayoutDraft, NoMemory> {
     let mut draft = LayoutDraft::new(alloc);
     for row in STRUCTS.iter() {
         let mut fields = Items::new(alloc);
@@ -215,7 +215,11 @@ fn layouts(alloc: Global) -> Result<Layouts, NoMemory> {
     if let Ty::Struct(at) = ty(alloc, b"a:30")? {
         draft.enums.insert(at, value(alloc, b"ubyte=9")?)?;
     }
-    Ok(draft.finish(alloc)?)
+    Ok(draft)
+}
+
+fn layouts(alloc: Global) -> Result<Layouts, NoMemory> {
+    Ok(draft(alloc)?.finish(alloc)?)
 }
 
 static CELLS: [(&[u8], u64); 29] = [

@@ -1,16 +1,16 @@
 // Each copy, of each variant, with memory enough: a clause speaks of those that are made, and not that one is.
-use super::{KEYS, numbered, pair, ty};
+use super::{KEYS, draft, numbered, pair, ty};
 use crate::{
     Arg, Asked, Binding, CallCount, CallParam, Candidate, Event, Fail as Failure, File, IsBy,
     IsForm, Items, Length, NoMemory, Param, Pattern, Place, ProbeState, Question, Range, Refusal,
     Source, Span, Spot, Step, Takes, Text, Trap, TrapKind, Ty, Value, args_of, copy_arg,
     copy_arg_types, copy_args, copy_binding, copy_bindings, copy_call_count, copy_call_counts,
     copy_call_param, copy_call_params, copy_candidate, copy_candidates, copy_const, copy_event,
-    copy_fail, copy_field, copy_fields, copy_file, copy_files, copy_is_form, copy_names,
-    copy_overload_set, copy_param, copy_params, copy_pattern, copy_patterns, copy_place,
-    copy_places, copy_probe_state, copy_question, copy_refusal, copy_source, copy_span, copy_spot,
-    copy_step, copy_steps, copy_takes, copy_trap, copy_tree, copy_ty, copy_types, copy_value,
-    copy_values,
+    copy_fail, copy_field, copy_fields, copy_file, copy_files, copy_is_form, copy_layout_draft,
+    copy_layouts, copy_names, copy_overload_set, copy_param, copy_params, copy_pattern,
+    copy_patterns, copy_place, copy_places, copy_probe_state, copy_question, copy_refusal,
+    copy_source, copy_span, copy_spot, copy_step, copy_steps, copy_takes, copy_trap, copy_tree,
+    copy_ty, copy_types, copy_value, copy_values,
 };
 use sqlite_items::{Boxed, Items as Children};
 use std::alloc::Global;
@@ -218,6 +218,19 @@ fn fields(rt: HostRuntime) -> Result<(), Fail> {
         assert!(rt; copy_field(rt.alloc(), field)? == *field);
     }
     assert!(rt; copy_fields(rt.alloc(), &fields)? == fields);
+    Ok(())
+}
+
+#[test]
+fn layouts_and_drafts(rt: HostRuntime) -> Result<(), Fail> {
+    let of = draft(rt.alloc())?;
+    assert!(rt; copy_layout_draft(rt.alloc(), &of)? == of);
+    let mut fewer = copy_layout_draft(rt.alloc(), &of)?;
+    fewer.enums.clear();
+    assert!(rt; fewer != of);
+    let layouts = of.finish(rt.alloc())?;
+    assert!(rt; copy_layouts(rt.alloc(), &layouts)? == layouts);
+    assert!(rt; fewer.finish(rt.alloc())? != layouts);
     Ok(())
 }
 

@@ -1,4 +1,4 @@
-use Rattle.dc_types.specs.Equal.{places, consts, args_, takes, params, bindings, call_params, candidates, fields, is_forms, questions, refusals, traps, events_, ranges, spans, spots, types, trees, patterns, values, sources, step_laws, call_counts, probe_states, limits, texts, files, fails}
+use Rattle.dc_types.specs.Equal.{places, consts, args_, takes, params, bindings, call_params, candidates, fields, is_forms, questions, refusals, traps, events_, ranges, spans, spots, types, trees, patterns, values, sources, step_laws, call_counts, probe_states, limits, texts, files, fails, layout_drafts, layouts}
 use Rattle.dc_types.proofs.laws.comparison_laws.Goals as goal
 
 pub returns-clause-places : goal.returns-clause-places
@@ -87,3 +87,9 @@ returns-clause-files c = files
 
 pub returns-clause-fails : goal.returns-clause-fails
 returns-clause-fails c = fails
+
+pub returns-clause-layout_drafts : goal.returns-clause-layout_drafts
+returns-clause-layout_drafts c = layout_drafts
+
+pub returns-clause-layouts : goal.returns-clause-layouts
+returns-clause-layouts c = layouts
