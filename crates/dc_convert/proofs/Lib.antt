@@ -8,4 +8,5 @@ pub mod Choosing
 pub mod Outcomes
 pub mod Causes
 pub mod Hulls
+pub mod Joining
 mod Examples

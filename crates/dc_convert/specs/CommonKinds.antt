@@ -1,5 +1,5 @@
 -- The kind in which an operation on two numbers is done (D specification, "Types", "Usual Arithmetic Conversions").
-use Rattle.std.specs.Prelude.{nat_lt, nat_le, Bool, true, false, ◌&&◌, List, [], ◌∷◌, map, Option, Some, None, if◌then◌else◌}
+use Rattle.std.specs.Prelude.{◌≡◌, nat_lt, nat_le, Bool, true, false, ◌&&◌, List, [], ◌∷◌, map, Option, Some, None, if◌then◌else◌}
 use Rattle.std.specs.List.{list_all}
 use Rattle.dc_types.specs.declared.kind.Kind.{Kind}
 use Rattle.dc_types.specs.declared.kind.Kind.TheVariants as kinds
@@ -34,6 +34,11 @@ common_promoted a b =
 -- the common kind of two numbers
 abbrev pub common : Kind → Kind → Kind
 common a b = common_promoted (promoted a) (promoted b)
+
+-- the common kind of numbers is the same in whatever order they stand
+pub record InAnyOrder : Type 0 where
+  pub of_two : (a b : Kind) → common a b ≡ common b a
+  pub of_three : (a b c : Kind) → common (common a b) c ≡ common a (common b c)
 
 abbrev pub kind_at : Ty-F (Option Kind) → Option Kind
 kind_at (Ty-F.Int k) = Some k

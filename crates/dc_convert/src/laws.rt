@@ -4,8 +4,15 @@ ghost use Rattle.dc_types.specs.declared.kind.Kind.{Kind};
 ghost use Rattle.dc_types.specs.declared.range.Range.{Range};
 ghost use Rattle.dc_types.specs.Integers.{wrap};
 ghost use Rattle.dc_convert.specs.Ranges.{Within, fitted};
+ghost use Rattle.dc_convert.specs.CommonKinds.{InAnyOrder};
 ghost use Rattle.dc_convert.specs.Levels.{LosesThere};
 ghost use Rattle.dc_convert.specs.Best.{Numbers, OneBeats, OneBest, OneOutcome, Causes};
+
+/// The common kind of numbers is the same in whatever order they stand (D specification, "Types", "Usual Arithmetic
+/// Conversions").
+pub fn common_law()
+    ensures { InAnyOrder }
+{}
 
 /// A number that is converted to a kind lies in the range that its own becomes there.
 pub fn conversion_law()

@@ -9,7 +9,7 @@ mod ranges;
 #[cfg(test)]
 mod tests;
 
-pub use laws::{choice_laws, conversion_law, loss_law, outcome_laws};
+pub use laws::{choice_laws, common_law, conversion_law, loss_law, outcome_laws};
 pub use levels::{converts, number_goes};
 pub use numbers::{Joint, choice_type, common, kind_of, parts_type, promoted, result_type};
 pub use ranges::{hull, lies, range_as, range_of, whole};
