@@ -1,6 +1,6 @@
 pub mod Spelled
 pub mod Good
-mod Lists
+pub mod Lists
 mod Choices
 mod Tools
 pub mod Turns
@@ -16,7 +16,7 @@ mod PartRules
 mod Meanings
 mod Tables
 mod TypeFirst
-mod NamedRules
+pub mod NamedRules
 mod Open
 mod Fronts
 mod StmtRules
@@ -24,6 +24,8 @@ mod StmtLevels
 mod DeclRules
 mod DeclLevels
 pub mod Wholes
+mod Dangling
+mod DanglingDecls
 mod Past
 mod Examples
 mod News

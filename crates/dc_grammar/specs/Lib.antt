@@ -21,3 +21,4 @@ pub mod Loops
 pub mod Nesting
 pub mod Reads
 pub mod Refusals
+pub mod Dangling

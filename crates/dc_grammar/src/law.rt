@@ -1,4 +1,5 @@
 // What holds of the grammar.
+ghost use Rattle.dc_grammar.specs.Dangling.{ElseIsNearest};
 ghost use Rattle.dc_grammar.specs.Nesting.{PastExactly};
 ghost use Rattle.dc_grammar.specs.NewForms.{NewDivides};
 ghost use Rattle.dc_grammar.specs.Reads.{OneTree, ExprFirst};
@@ -38,6 +39,12 @@ pub fn variable_first()
 /// An `else` belongs to the nearest `if`.
 pub fn nearest_if()
     ensures { NearestIf }
+{}
+
+/// In every tree of the grammar an `else` belongs to the nearest `if`, `static if` or `version`: no branch before it
+/// would take it. And the index of the grammar says whether a statement or declaration would take one that follows.
+pub fn else_is_nearest()
+    ensures { ElseIsNearest }
 {}
 
 /// What a `new` makes: by `new Type(x)` where a type and one argument stand there, and by `new T[n]` elsewhere.

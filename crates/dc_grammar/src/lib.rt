@@ -21,8 +21,8 @@ pub use attribute::{
 };
 pub use bracket::{behind_parens, names_member};
 pub use law::{
-    expr_first, lists_divide, nearest_if, new_divides, one_item, one_tree, past_exactly,
-    variable_first,
+    else_is_nearest, expr_first, lists_divide, nearest_if, new_divides, one_item, one_tree,
+    past_exactly, variable_first,
 };
 pub use level::Level;
 pub use levels::{Effect, first_outside, first_past, nesting};

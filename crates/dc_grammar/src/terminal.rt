@@ -1,5 +1,5 @@
 // The terminals of the grammar.
-ghost use Rattle.std.specs.Prelude.{◌≡◌, map};
+ghost use Rattle.std.specs.Prelude.{◌≡◌, ◌∷◌, [], map};
 ghost use Rattle.dc_grammar.specs.Terminals as terminals;
 
 use dc_token::{Token, TokenKind};
@@ -295,18 +295,167 @@ fn find(mut table: &[(&[u8], Terminal)], spelling: &[u8]) -> Terminal
     Terminal::Outside
 }
 
+/// A keyword, found at once where it has at most 3 bytes.
 #[tactic(auto, using(crate::proofs::Spelled::words_spelled), unfolding(crate::specs::Terminals::word))]
+fn word_to_3(spelling: &[u8]) -> Terminal
+    ensures { result ≡ terminals.word spelling.now }
+{
+    match spelling {
+        [b'd', b'o'] => Terminal::Do,
+        [b'f', b'o', b'r'] => Terminal::For,
+        [b'i', b'f'] => Terminal::If,
+        [b'i', b'n', b't'] => Terminal::Int,
+        [b'i', b's'] => Terminal::Is,
+        [b'n', b'e', b'w'] => Terminal::New,
+        [b'r', b'e', b'f'] => Terminal::Ref,
+        _ => find(&WORDS, spelling),
+    }
+}
+
+/// A keyword, found at once where it has 4 bytes.
+#[tactic(auto, using(crate::proofs::Spelled::words_spelled), unfolding(crate::specs::Terminals::word))]
+fn word_of_4(spelling: &[u8]) -> Terminal
+    ensures { result ≡ terminals.word spelling.now }
+{
+    match spelling {
+        [b'a', b'u', b't', b'o'] => Terminal::Auto,
+        [b'b', b'o', b'o', b'l'] => Terminal::Bool,
+        [b'b', b'y', b't', b'e'] => Terminal::Byte,
+        [b'c', b'a', b's', b'e'] => Terminal::Case,
+        [b'c', b'a', b's', b't'] => Terminal::Cast,
+        [b'c', b'h', b'a', b'r'] => Terminal::Char,
+        [b'e', b'l', b's', b'e'] => Terminal::Else,
+        [b'e', b'n', b'u', b'm'] => Terminal::Enum,
+        [b'l', b'o', b'n', b'g'] => Terminal::Long,
+        [b'n', b'u', b'l', b'l'] => Terminal::Null,
+        [b'p', b'u', b'r', b'e'] => Terminal::Pure,
+        [b't', b'h', b'i', b's'] => Terminal::This,
+        [b't', b'r', b'u', b'e'] => Terminal::True,
+        [b'u', b'i', b'n', b't'] => Terminal::Uint,
+        [b'v', b'o', b'i', b'd'] => Terminal::Void,
+        _ => find(&WORDS, spelling),
+    }
+}
+
+/// A keyword, found at once where it has 5 bytes.
+#[tactic(auto, using(crate::proofs::Spelled::words_spelled), unfolding(crate::specs::Terminals::word))]
+fn word_of_5(spelling: &[u8]) -> Terminal
+    ensures { result ≡ terminals.word spelling.now }
+{
+    match spelling {
+        [b'a', b'l', b'i', b'a', b's'] => Terminal::Alias,
+        [b'b', b'r', b'e', b'a', b'k'] => Terminal::Break,
+        [b'c', b'o', b'n', b's', b't'] => Terminal::Const,
+        [b'f', b'a', b'l', b's', b'e'] => Terminal::False,
+        [b'm', b'i', b'x', b'i', b'n'] => Terminal::Mixin,
+        [b's', b'h', b'o', b'r', b't'] => Terminal::Short,
+        [b'u', b'b', b'y', b't', b'e'] => Terminal::Ubyte,
+        [b'u', b'l', b'o', b'n', b'g'] => Terminal::Ulong,
+        [b'w', b'h', b'i', b'l', b'e'] => Terminal::While,
+        _ => find(&WORDS, spelling),
+    }
+}
+
+/// A keyword, found at once where it has 6 bytes.
+#[tactic(auto, using(crate::proofs::Spelled::words_spelled), unfolding(crate::specs::Terminals::word))]
+fn word_of_6(spelling: &[u8]) -> Terminal
+    ensures { result ≡ terminals.word spelling.now }
+{
+    match spelling {
+        [b'a', b's', b's', b'e', b'r', b't'] => Terminal::Assert,
+        [b'i', b'm', b'p', b'o', b'r', b't'] => Terminal::Import,
+        [b'm', b'o', b'd', b'u', b'l', b'e'] => Terminal::Module,
+        [b'p', b'u', b'b', b'l', b'i', b'c'] => Terminal::Public,
+        [b'r', b'e', b't', b'u', b'r', b'n'] => Terminal::Return,
+        [b's', b't', b'a', b't', b'i', b'c'] => Terminal::Static,
+        [b's', b't', b'r', b'u', b'c', b't'] => Terminal::Struct,
+        [b's', b'w', b'i', b't', b'c', b'h'] => Terminal::Switch,
+        [b't', b'y', b'p', b'e', b'o', b'f'] => Terminal::TypeOf,
+        [b'u', b's', b'h', b'o', b'r', b't'] => Terminal::Ushort,
+        _ => find(&WORDS, spelling),
+    }
+}
+
+/// A keyword, found at once where it has at least 7 bytes.
+#[tactic(auto, using(crate::proofs::Spelled::words_spelled), unfolding(crate::specs::Terminals::word))]
+fn word_from_7(spelling: &[u8]) -> Terminal
+    ensures { result ≡ terminals.word spelling.now }
+{
+    match spelling {
+        [b'c', b'o', b'n', b't', b'i', b'n', b'u', b'e'] => Terminal::Continue,
+        [b'd', b'e', b'f', b'a', b'u', b'l', b't'] => Terminal::Default,
+        [b'f', b'o', b'r', b'e', b'a', b'c', b'h'] => Terminal::Foreach,
+        [b'i', b'm', b'm', b'u', b't', b'a', b'b', b'l', b'e'] => Terminal::Immutable,
+        [b'n', b'o', b't', b'h', b'r', b'o', b'w'] => Terminal::Nothrow,
+        [b'p', b'r', b'i', b'v', b'a', b't', b'e'] => Terminal::Private,
+        [b't', b'e', b'm', b'p', b'l', b'a', b't', b'e'] => Terminal::Template,
+        [b'v', b'e', b'r', b's', b'i', b'o', b'n'] => Terminal::Version,
+        [b'_', b'_', b't', b'r', b'a', b'i', b't', b's'] => Terminal::Traits,
+        _ => find(&WORDS, spelling),
+    }
+}
+
 fn word(spelling: &[u8]) -> Terminal
     ensures { result ≡ terminals.word spelling.now }
 {
-    find(&WORDS, spelling)
+    match spelling.len() {
+        4 => word_of_4(spelling),
+        5 => word_of_5(spelling),
+        6 => word_of_6(spelling),
+        len => {
+            if len < 4 {
+                word_to_3(spelling)
+            } else {
+                word_from_7(spelling)
+            }
+        }
+    }
+}
+
+/// The sign of one byte.
+#[tactic(auto, using(crate::proofs::Spelled::signs_spelled), unfolding(crate::specs::Terminals::sign))]
+fn byte_sign(byte: u8) -> Terminal
+    ensures { result ≡ terminals.sign (byte ∷ []) }
+{
+    match byte {
+        b'(' => Terminal::LeftParen,
+        b')' => Terminal::RightParen,
+        b'[' => Terminal::LeftBracket,
+        b']' => Terminal::RightBracket,
+        b'{' => Terminal::LeftBrace,
+        b'}' => Terminal::RightBrace,
+        b';' => Terminal::Semicolon,
+        b',' => Terminal::Comma,
+        b'.' => Terminal::Dot,
+        b':' => Terminal::Colon,
+        b'$' => Terminal::Dollar,
+        b'?' => Terminal::Question,
+        b'!' => Terminal::Not,
+        b'@' => Terminal::At,
+        b'=' => Terminal::Equals,
+        b'<' => Terminal::Less,
+        b'>' => Terminal::Greater,
+        b'+' => Terminal::Plus,
+        b'-' => Terminal::Minus,
+        b'*' => Terminal::Star,
+        b'/' => Terminal::Slash,
+        b'%' => Terminal::Percent,
+        b'&' => Terminal::Ampersand,
+        b'|' => Terminal::Bar,
+        b'^' => Terminal::Caret,
+        b'~' => Terminal::Tilde,
+        _ => find(&SIGNS, &[byte]),
+    }
 }
 
 #[tactic(auto, using(crate::proofs::Spelled::signs_spelled), unfolding(crate::specs::Terminals::sign))]
 fn sign(spelling: &[u8]) -> Terminal
     ensures { result ≡ terminals.sign spelling.now }
 {
-    find(&SIGNS, spelling)
+    match spelling {
+        [byte] => byte_sign(*byte),
+        _ => find(&SIGNS, spelling),
+    }
 }
 
 /// What the token is to the grammar.
