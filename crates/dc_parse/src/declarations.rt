@@ -129,7 +129,7 @@ impl<
 }
 
 /// The longest declaration that begins at a token. Each further level of nesting takes a token, so `depth` is to be at
-/// least the count of tokens.
+/// least the count of tokens. Past the room of the source it is want of memory.
 fn decl<E: ReadExpr>(
     source: &Source<'_, E>,
     at: usize,
@@ -140,8 +140,11 @@ fn decl<E: ReadExpr>(
     if depth == 0 {
         return Err(Miss::Nothing);
     }
+    let Some(inside) = source.inside() else {
+        return Err(Miss::Memory);
+    };
     DeclRules {
-        source: &*source,
+        source: &inside,
         depth: depth - 1,
         inner: decl::<E>,
     }

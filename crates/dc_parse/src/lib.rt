@@ -12,5 +12,7 @@ mod parts;
 mod simple;
 mod single;
 mod statements;
+#[cfg(test)]
+mod tests;
 
 pub use parse::{parse_declarations, parse_module, parse_statements};

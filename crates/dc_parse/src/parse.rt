@@ -15,6 +15,12 @@ use dc_token::Tokens;
 use dc_types::{Fail, Place, Refusal, Step, Text, copy_place};
 use std::alloc::{AllocError, Global};
 
+/// How many statements and declarations may be open at a place. The nesting doesn't count each of them, as in
+/// `if (a) x; else while (b) if (c) y; else ..`, and each takes some of the stack, here and wherever a tree is gone
+/// through. Two for each brace that the nesting allows are 512, and a stack of 8 MiB has room for more than this number
+/// with the deepest expression inside (`bench/README.md`).
+const ROOM: usize = 1_024;
+
 fn refusal(
     alloc: Global,
     rule: u8,
@@ -71,7 +77,10 @@ fn whole<E: ReadExpr, T: Drop>(
     }
 }
 
-fn whole_module<E: ReadExpr>(source: &Source<'_, E>, at: &Place) -> Result<ModuleTree, Fail>
+pub(crate) fn whole_module<E: ReadExpr>(
+    source: &Source<'_, E>,
+    at: &Place,
+) -> Result<ModuleTree, Fail>
     ensures { IsAnswer IsModule None None source.now.tokens.now at.now result }
 {
     match module(source, 0) {
@@ -82,7 +91,10 @@ fn whole_module<E: ReadExpr>(source: &Source<'_, E>, at: &Place) -> Result<Modul
     }
 }
 
-fn whole_declarations<E: ReadExpr>(source: &Source<'_, E>, at: &Place) -> Result<Decls, Fail>
+pub(crate) fn whole_declarations<E: ReadExpr>(
+    source: &Source<'_, E>,
+    at: &Place,
+) -> Result<Decls, Fail>
     ensures { IsAnswer AreDecls None None source.now.tokens.now at.now result }
 {
     match decls(source, 0) {
@@ -92,7 +104,10 @@ fn whole_declarations<E: ReadExpr>(source: &Source<'_, E>, at: &Place) -> Result
     }
 }
 
-fn whole_statements<E: ReadExpr>(source: &Source<'_, E>, at: &Place) -> Result<Stmts, Fail>
+pub(crate) fn whole_statements<E: ReadExpr>(
+    source: &Source<'_, E>,
+    at: &Place,
+) -> Result<Stmts, Fail>
     ensures { IsAnswer AreStmts None None source.now.tokens.now at.now result }
 {
     match stmts(source, 0) {
@@ -121,6 +136,7 @@ pub fn parse_module<E: ReadExpr>(
         alloc,
         exprs,
         tokens,
+        room: ROOM,
     };
     whole_module(&source, at)
 }
@@ -140,6 +156,7 @@ pub fn parse_declarations<E: ReadExpr>(
         alloc,
         exprs,
         tokens,
+        room: ROOM,
     };
     whole_declarations(&source, at)
 }
@@ -159,6 +176,7 @@ pub fn parse_statements<E: ReadExpr>(
         alloc,
         exprs,
         tokens,
+        room: ROOM,
     };
     whole_statements(&source, at)
 }

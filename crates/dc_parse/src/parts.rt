@@ -2,7 +2,7 @@
 //
 // Each method of `Source` reads the longest text of its kind that begins at a token. It answers the tree and the
 // number of the token behind it, `Miss::Nothing` where no such text begins there, and `Miss::Memory` where memory
-// runs out.
+// or the room for open statements and declarations runs out.
 
 mod attributes;
 mod enums;

@@ -72,7 +72,7 @@ impl<
 }
 
 /// The longest statement that begins at a token. Each further level of nesting takes a token, so `depth` is to be at
-/// least the count of tokens.
+/// least the count of tokens. Past the room of the source it is want of memory.
 pub(crate) fn stmt<E: ReadExpr>(
     source: &Source<'_, E>,
     at: usize,
@@ -83,8 +83,11 @@ pub(crate) fn stmt<E: ReadExpr>(
     if depth == 0 {
         return Err(Miss::Nothing);
     }
+    let Some(inside) = source.inside() else {
+        return Err(Miss::Memory);
+    };
     StmtRules {
-        source: &*source,
+        source: &inside,
         depth: depth - 1,
         inner: stmt::<E>,
     }

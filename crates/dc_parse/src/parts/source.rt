@@ -1,5 +1,5 @@
 // What is read from.
-ghost use Rattle.std.specs.Prelude.{◌≡◌, ◌∷◌, [], ◌≤◌, length, MatchOption};
+ghost use Rattle.std.specs.Prelude.{◌≡◌, ◌∷◌, [], ◌≤◌, length, IfSome, MatchOption};
 ghost use Rattle.dc_grammar.specs.Terminals as terminals;
 ghost use Rattle.dc_grammar.specs.Statements as statements;
 ghost use Rattle.dc_grammar.specs.Reading as reading;
@@ -20,9 +20,25 @@ pub(crate) struct Source<'a, E> {
     pub(crate) alloc: Global,
     pub(crate) exprs: &'a E,
     pub(crate) tokens: &'a Tokens,
+    /// How many statements and declarations may still open inside those that are open. The nesting of a text doesn't
+    /// bound them, and each takes room on the stack.
+    pub(crate) room: usize,
 }
 
 impl<'a, E: ReadExpr> Source<'a, E> {
+    /// The same for what stands inside one more statement or declaration, where there is room for one.
+    pub(crate) fn inside(&self) -> Option<Source<'a, E>>
+        ensures { IfSome result (λ inside. inside.tokens.now ≡ self.now.tokens.now) }
+    {
+        let room = self.room.checked_sub(1)?;
+        Some(Source {
+            alloc: self.alloc,
+            exprs: self.exprs,
+            tokens: self.tokens,
+            room,
+        })
+    }
+
     /// How many tokens there are from this one on.
     #[tactic(auto, unfolding(crate::specs::Left::left))]
     pub(crate) fn count(&self, at: usize) -> usize

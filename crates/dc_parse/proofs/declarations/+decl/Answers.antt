@@ -10,4 +10,4 @@ returns-then-depth-eq0 g t c = let none : c.args.depth ≡ 0 = omega arith in ap
 
 pub returns : goal.returns
 unfolding decl_to
-returns g t c = rw (deeper (λ n. decl_to n (left c.args.source.now.tokens.now c.args.at)) c.args.depth (omega arith)) c.one_decl.ensures
+returns g t c = rw (deeper (λ n. decl_to n (left c.args.source.now.tokens.now c.args.at)) c.args.depth (omega arith)) (rw c.in-Some.ensures at c.one_decl.ensures)
