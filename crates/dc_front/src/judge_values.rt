@@ -17,11 +17,12 @@ use std::alloc::{AllocError, Global};
 pub fn place_in(alloc: Global, known: &Known, at: u32) -> Result<Place, AllocError>
     ensures { IfOk result (λ place. place ≡ place_in known.now at) }
 {
-    let mut steps = Items::new(alloc);
+    // with room for one step alone, since each tree holds places
+    let mut steps = Vec::with_capacity(alloc, 1)?;
     steps.push(Step::At(at))?;
     Ok(Place {
         module: Text::copy_of(alloc, known.home.as_slice())?,
-        steps,
+        steps: Items::from_vec(steps),
     })
 }
 
