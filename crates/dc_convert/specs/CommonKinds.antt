@@ -35,7 +35,8 @@ common_promoted a b =
 abbrev pub common : Kind → Kind → Kind
 common a b = common_promoted (promoted a) (promoted b)
 
--- the common kind of numbers is the same in whatever order they stand
+-- The common kind is the same for two numbers either way round, and for three whichever two are taken first. So it doesn't
+-- depend on the order of any number of them.
 pub record InAnyOrder : Type 0 where
   pub of_two : (a b : Kind) → common a b ≡ common b a
   pub of_three : (a b c : Kind) → common (common a b) c ≡ common a (common b c)

@@ -8,8 +8,8 @@ ghost use Rattle.dc_convert.specs.CommonKinds.{InAnyOrder};
 ghost use Rattle.dc_convert.specs.Levels.{LosesThere};
 ghost use Rattle.dc_convert.specs.Best.{Numbers, OneBeats, OneBest, OneOutcome, Causes};
 
-/// The common kind of numbers is the same in whatever order they stand (D specification, "Types", "Usual Arithmetic
-/// Conversions").
+/// The common kind is the same for two numbers either way round, and for three whichever two are taken first
+/// (D specification, "Types", "Usual Arithmetic Conversions").
 pub fn common_law()
     ensures { InAnyOrder }
 {}
