@@ -9,5 +9,3 @@ mod whole;
 
 pub use whole::lower_bodies;
 
-#[cfg(test)]
-mod tests;

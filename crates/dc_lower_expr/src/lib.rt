@@ -10,5 +10,3 @@ pub use lower::{lower_at, lower_expr, lowering_law, put_op};
 pub use slots::Slots;
 pub use table::Table;
 
-#[cfg(test)]
-mod tests;

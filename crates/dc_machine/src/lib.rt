@@ -19,5 +19,3 @@ pub use machine::Machine;
 pub use report::{RunEnd, RunReport};
 pub use simple::is_simple_code;
 
-#[cfg(test)]
-mod tests;

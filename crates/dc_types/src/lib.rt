@@ -23,8 +23,6 @@ mod refusal;
 mod shown;
 mod start;
 mod status;
-#[cfg(test)]
-mod tests;
 mod text;
 mod ty;
 mod value;
