@@ -15,10 +15,10 @@ use Rattle.dc_edge.specs.Sink.{AppendsFront}
 use Rattle.dc_edge.specs.declared.sink.SinkFault.{SinkFault}
 use Rattle.dc_edge.specs.declared.sink.SinkFault.TheVariants as sink
 use Rattle.dc_machine.specs.Runs.{TakesFrontAfter}
-use Rattle.dc_tree.specs.Values.{number_in}
-use Rattle.dc_tree.specs.Nodes.{own_type}
-use Rattle.dc_tree.specs.Typed.{AreTyped}
-use Rattle.dc_tree.specs.Meaning as meaning
+use Rattle.core_tree.specs.Values.{number_in}
+use Rattle.core_tree.specs.Nodes.{own_type}
+use Rattle.core_tree.specs.Typed.{AreTyped}
+use Rattle.core_tree.specs.Meaning as meaning
 use Rattle.dc_top.specs.declared.program.Program.{Program}
 use Rattle.dc_top.specs.declared.program.Ending.{Ending}
 use Rattle.dc_top.specs.declared.program.Ending.TheVariants as ending

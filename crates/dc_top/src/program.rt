@@ -1,5 +1,5 @@
 // Programs that can be run, and how their runs end.
-use dc_tree::{Bodies, Tree};
+use core_tree::{Bodies, Tree};
 use dc_types::{Text, Trap};
 
 /// Functions with their bodies, and the expression with which a run begins, which is the call of `main`.
