@@ -4,7 +4,7 @@ use dc_types::{Items, Place, Ty};
 
 /// A function: where it is declared, its parameters, the other variables that its body declares, the type of its result,
 /// and its body (D specification, "Functions").
-#[derive(Debug, Drop)]
+#[derive(Drop)]
 pub struct Body {
     pub place: Place,
     pub params: Variables,

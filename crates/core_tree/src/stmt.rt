@@ -4,7 +4,7 @@ use dc_types::Place;
 use sqlite_items::Items as Children;
 
 /// A condition of an `if`, and the statements behind it.
-#[derive(Debug, Drop)]
+#[derive(Drop)]
 pub struct Branch<S> {
     pub condition: Tree,
     pub body: Children<S>,
@@ -12,7 +12,7 @@ pub struct Branch<S> {
 
 /// A resolved statement (D specification, "Statements").
 #[cycle(stmt)]
-#[derive(Debug, Drop)]
+#[derive(Drop)]
 pub enum Stmt {
     /// An expression, for what it does.
     Eval(Tree),

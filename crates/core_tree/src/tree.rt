@@ -3,7 +3,7 @@ use dc_types::{BinOp, CmpOp, Const, Items, Kind, Place, Ty, Types};
 use sqlite_items::{Boxed, Items as Children};
 
 /// A variable of a function, a parameter among them: where it is declared, and its type.
-#[derive(Debug, Drop, PartialEq, Eq)]
+#[derive(Drop, PartialEq, Eq)]
 pub struct Variable {
     pub place: Place,
     pub ty: Ty,
@@ -12,7 +12,7 @@ pub struct Variable {
 pub type Variables = Items<Variable>;
 
 /// An operator of a chain, and the operand behind it, which is a tree.
-#[derive(Debug, Drop)]
+#[derive(Drop)]
 pub struct Operation<T> {
     pub operator: BinOp,
     pub operand: T,
@@ -20,7 +20,7 @@ pub struct Operation<T> {
 
 /// A resolved expression (D specification, "Expressions"). The first place in each form is where it begins.
 #[cycle(tree)]
-#[derive(Debug, Drop)]
+#[derive(Drop)]
 pub enum Tree {
     /// A literal, or a name that stands for a constant.
     Constant(Place, Const),

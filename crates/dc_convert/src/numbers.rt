@@ -9,7 +9,7 @@ use crate::ranges::{bits_of, is_signed};
 use dc_types::{BinOp, Kind, Source, Ty, same_ty};
 
 /// The type that two operands have together.
-#[derive(Clone, Copy, Debug, PartialEq, Eq)]
+#[derive(Clone, Copy, PartialEq, Eq)]
 pub enum Joint {
     /// That of each, which is one.
     Same,

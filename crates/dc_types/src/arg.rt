@@ -5,7 +5,7 @@ use crate::{Const, Items, Place, Text, Ty, copy_const, copy_place, copy_ty};
 use std::alloc::{AllocError, Global};
 
 /// An argument of a template (D specification, "Templates", "Template Arguments").
-#[derive(Debug, Drop, PartialEq, Eq)]
+#[derive(Drop, PartialEq, Eq)]
 pub enum Arg {
     OfType(Ty),
     OfValue(Const),
@@ -16,7 +16,7 @@ pub enum Arg {
 pub type Args = Items<Arg>;
 
 /// What a template parameter takes.
-#[derive(Debug, Drop, PartialEq, Eq)]
+#[derive(Drop, PartialEq, Eq)]
 pub enum Takes {
     AType,
     /// A value of the type.
@@ -25,7 +25,7 @@ pub enum Takes {
 }
 
 /// A parameter of a template (D specification, "Templates", "Template Parameters").
-#[derive(Debug, Drop, PartialEq, Eq)]
+#[derive(Drop, PartialEq, Eq)]
 pub struct Param {
     pub name: Text,
     pub takes: Takes,
@@ -34,7 +34,7 @@ pub struct Param {
 pub type Params = Items<Param>;
 
 /// The argument that a name of a parameter stands for.
-#[derive(Debug, Drop, PartialEq, Eq)]
+#[derive(Drop, PartialEq, Eq)]
 pub struct Binding {
     pub name: Text,
     pub arg: Arg,

@@ -5,7 +5,7 @@ use crate::{Items, Ty, copy_ty};
 use std::alloc::{AllocError, Global};
 
 /// A parameter of a candidate.
-#[derive(Debug, Drop, PartialEq, Eq)]
+#[derive(Drop, PartialEq, Eq)]
 pub struct CallParam {
     pub ty: Ty,
     /// Whether it is marked `ref`, so that it stands for its argument's place.
@@ -13,7 +13,7 @@ pub struct CallParam {
 }
 
 /// A function that a call may name (D specification, "Functions", "Function Overloading").
-#[derive(Debug, Drop, PartialEq, Eq)]
+#[derive(Drop, PartialEq, Eq)]
 pub struct Candidate {
     pub params: Items<CallParam>,
     /// Whether it is a plain function, and no instance of a template.

@@ -7,14 +7,14 @@ use sqlite_items::Items as Children;
 use std::alloc::{AllocError, Global};
 
 /// The tree of a constant: a number, or the list of the parts of an array, a string or a struct.
-#[derive(Debug, Drop)]
+#[derive(Drop)]
 pub enum CTree {
     Num(i128),
     List(Children<CTree>),
 }
 
 /// A value with its type.
-#[derive(Debug, Drop, PartialEq, Eq)]
+#[derive(Drop, PartialEq, Eq)]
 pub struct Const {
     pub ty: Ty,
     pub tree: CTree,

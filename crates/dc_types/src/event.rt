@@ -5,7 +5,7 @@ use crate::{Items, Place, Places, Text, copy_place, copy_places};
 use std::alloc::{AllocError, Global};
 
 /// What stops a program at an operation that has no result.
-#[derive(Clone, Copy, Debug, PartialEq, Eq, PartialOrd, Ord)]
+#[derive(Clone, Copy, PartialEq, Eq, PartialOrd, Ord)]
 pub enum TrapKind {
     Divide,
     Shift,
@@ -18,7 +18,7 @@ pub enum TrapKind {
 }
 
 /// A trap, at the operation that met it.
-#[derive(Debug, Drop, PartialEq, Eq)]
+#[derive(Drop, PartialEq, Eq)]
 pub struct Trap {
     pub kind: TrapKind,
     pub place: Place,
@@ -35,7 +35,7 @@ pub fn copy_trap(alloc: Global, trap: &Trap) -> Result<Trap, AllocError>
 }
 
 /// One thing that a run does.
-#[derive(Debug, Drop, PartialEq, Eq)]
+#[derive(Drop, PartialEq, Eq)]
 pub enum Event {
     /// A function is entered. It takes one tick.
     Enter(Place),
@@ -57,7 +57,7 @@ pub fn copy_event(alloc: Global, event: &Event) -> Result<Event, AllocError>
 }
 
 /// How far a run may go.
-#[derive(Clone, Copy, Debug, PartialEq, Eq)]
+#[derive(Clone, Copy, PartialEq, Eq)]
 pub struct Limits {
     /// The most function entries and loop turns together.
     pub ticks: u64,
@@ -70,14 +70,14 @@ pub struct Limits {
 }
 
 /// How often a function was called.
-#[derive(Debug, Drop, PartialEq, Eq)]
+#[derive(Drop, PartialEq, Eq)]
 pub struct CallCount {
     pub place: Place,
     pub number: u64,
 }
 
 /// What a probe has been told so far.
-#[derive(Debug, Drop, PartialEq, Eq)]
+#[derive(Drop, PartialEq, Eq)]
 pub enum ProbeState {
     /// The functions that were entered and the loops that were turned, each once.
     Covered { entered: Places, turned: Places },

@@ -5,7 +5,7 @@ use crate::{Files, Items, Text};
 use std::alloc::{AllocError, Global};
 
 /// A file: its path, as the words of the command name it, and its bytes.
-#[derive(Debug, Drop, PartialEq, Eq)]
+#[derive(Drop, PartialEq, Eq)]
 pub struct File {
     pub path: Text,
     pub bytes: Text,

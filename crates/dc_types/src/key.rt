@@ -142,7 +142,7 @@ fn put_trees(alloc: Global, out: &mut Text, trees: &[CTree]) -> Result<(), Alloc
 }
 
 /// How a value is written.
-#[derive(Clone, Copy, Debug, PartialEq, Eq)]
+#[derive(Clone, Copy, PartialEq, Eq)]
 enum Form {
     ANumber,
     AString,

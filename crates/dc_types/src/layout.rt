@@ -8,7 +8,7 @@ use std::collections::{BTreeMap, BTreeSet};
 use std::marker::Model;
 
 /// A field of a struct, with the value that it starts with (D specification, "Structs, Unions").
-#[derive(Debug, Drop, PartialEq, Eq)]
+#[derive(Drop, PartialEq, Eq)]
 pub struct Field {
     pub name: Text,
     pub ty: Ty,
@@ -40,7 +40,7 @@ pub fn copy_fields(alloc: Global, fields: &Fields) -> Result<Fields, AllocError>
 }
 
 /// Structs with their fields, and enums with their first members, by their places.
-#[derive(Debug, Drop, PartialEq, Eq)]
+#[derive(Drop, PartialEq, Eq)]
 pub struct LayoutDraft {
     pub structs: BTreeMap<Place, Fields>,
     pub enums: BTreeMap<Place, Const>,
@@ -48,7 +48,7 @@ pub struct LayoutDraft {
 
 /// Layouts, which contracts see as lists of structs and enums with their places. The type keeps the cells of each
 /// struct.
-#[derive(Debug, Drop)]
+#[derive(Drop)]
 pub struct Layouts {
     structs: BTreeMap<Place, Fields>,
     enums: BTreeMap<Place, Const>,
@@ -196,7 +196,7 @@ fn held(ty: &Ty) -> Option<&Place> {
 }
 
 /// What is left to do on the way through the structs: to list one, or to go on to those that it holds.
-#[derive(Debug, Drop)]
+#[derive(Drop)]
 enum Todo {
     List(Place),
     Visit(Place),

@@ -7,7 +7,7 @@ use sqlite_items::Boxed;
 use std::alloc::{AllocError, Global};
 
 /// The length of a fixed array in a pattern.
-#[derive(Clone, Copy, Debug, PartialEq, Eq)]
+#[derive(Clone, Copy, PartialEq, Eq)]
 pub enum Length {
     Number(u32),
     /// The parameter with the number, counted from 0.
@@ -15,7 +15,7 @@ pub enum Length {
 }
 
 /// A type that may have parameters of a template in it (D specification, "Templates", "Function Templates").
-#[derive(Debug, Drop)]
+#[derive(Drop)]
 pub enum Pattern {
     /// The parameter with the number, counted from 0.
     Param(u32),
@@ -29,7 +29,7 @@ pub enum Pattern {
 pub type Patterns = Items<Pattern>;
 
 /// How an `is` expression compares a type with a pattern.
-#[derive(Clone, Copy, Debug, PartialEq, Eq)]
+#[derive(Clone, Copy, PartialEq, Eq)]
 pub enum IsBy {
     /// `is(T)`: there is such a type.
     Alone,
@@ -42,7 +42,7 @@ pub enum IsBy {
 }
 
 /// An `is` expression (D specification, "Expressions", "Is Expression").
-#[derive(Debug, Drop, PartialEq, Eq)]
+#[derive(Drop, PartialEq, Eq)]
 pub struct IsForm {
     pub left: Ty,
     pub by: IsBy,

@@ -5,7 +5,7 @@ use crate::{Items, Places, Steps, Text};
 use std::alloc::{AllocError, Global};
 
 /// One step of a place, from the file inwards.
-#[derive(Debug, Drop, PartialEq, Eq, PartialOrd, Ord)]
+#[derive(Drop, PartialEq, Eq, PartialOrd, Ord)]
 pub enum Step {
     /// At an offset in bytes: in the file, or in the text of the mixin at the place before it.
     At(u32),
@@ -17,7 +17,7 @@ pub enum Step {
 
 /// Where something stands in a program. Places have an order: by the module's name, then step by step,
 /// where a place comes before those inside it.
-#[derive(Debug, Drop, PartialEq, Eq, PartialOrd, Ord)]
+#[derive(Drop, PartialEq, Eq, PartialOrd, Ord)]
 pub struct Place {
     /// The name of the module, as `a.b`, or nothing where the whole program is meant.
     pub module: Text,

@@ -5,7 +5,7 @@ use crate::{Place, copy_place};
 use std::alloc::{AllocError, Global};
 
 /// What is asked about a place.
-#[derive(Clone, Copy, Debug, PartialEq, Eq, PartialOrd, Ord)]
+#[derive(Clone, Copy, PartialEq, Eq, PartialOrd, Ord)]
 pub enum Asked {
     /// What the declaration stands for.
     Symbol,
@@ -22,7 +22,7 @@ pub enum Asked {
 }
 
 /// A question about a program. Questions have an order: by their places, and at one place by what is asked.
-#[derive(Debug, Drop, PartialEq, Eq, PartialOrd, Ord)]
+#[derive(Drop, PartialEq, Eq, PartialOrd, Ord)]
 pub struct Question {
     pub place: Place,
     pub asked: Asked,

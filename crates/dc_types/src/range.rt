@@ -8,7 +8,7 @@ use std::alloc::{AllocError, Global};
 
 /// The numbers from `lo` to `hi`, both among them. An expression's range holds each value that it may have
 /// (D specification, "Types", "Implicit Conversions").
-#[derive(Clone, Copy, Debug, PartialEq, Eq)]
+#[derive(Clone, Copy, PartialEq, Eq)]
 pub struct Range {
     pub lo: i128,
     pub hi: i128,
@@ -18,7 +18,7 @@ pub struct Range {
 pub type Level = u8;
 
 /// What a conversion has to know of an expression.
-#[derive(Debug, Drop)]
+#[derive(Drop)]
 pub struct Source {
     pub ty: Ty,
     pub range: Range,

@@ -5,7 +5,7 @@ use crate::{NoMemory, Place, Text, copy_place};
 use std::alloc::{AllocError, AllocFailed, Global};
 
 /// A rule that a program breaks, and where.
-#[derive(Debug, Drop, PartialEq, Eq)]
+#[derive(Drop, PartialEq, Eq)]
 pub struct Refusal {
     /// The number of the rule, from 1 to 25.
     pub rule: u8,
@@ -26,7 +26,7 @@ pub fn copy_refusal(alloc: Global, refusal: &Refusal) -> Result<Refusal, AllocEr
 }
 
 /// Why a text has no tokens, no tree or no program.
-#[derive(Debug, Drop, PartialEq, Eq)]
+#[derive(Drop, PartialEq, Eq)]
 pub enum Fail {
     Refused(Refusal),
     NoMemory,

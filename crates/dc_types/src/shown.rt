@@ -14,7 +14,7 @@ use crate::{
 use std::alloc::{AllocError, Global};
 
 /// A piece of a text: bytes, or the name of a struct or enum, for which what is shown of it stands.
-#[derive(Debug, Drop)]
+#[derive(Drop)]
 enum Piece {
     Bytes(Text),
     Name(Place),

@@ -7,7 +7,7 @@ use sqlite_items::Boxed;
 use std::alloc::{AllocError, Global};
 
 /// A type of a program (D specification, "Types").
-#[derive(Debug, Drop)]
+#[derive(Drop)]
 pub enum Ty {
     /// `void`
     Void,

@@ -7,7 +7,7 @@ use sqlite_items::Items as Children;
 use std::alloc::{AllocError, Global};
 
 /// The elements of a slice: some of those of a block, or of a list in it.
-#[derive(Debug, Drop, PartialEq, Eq)]
+#[derive(Drop, PartialEq, Eq)]
 pub struct Span {
     pub block: u32,
     /// Leads to the list whose elements the span takes. It is empty for the block's own list.
@@ -17,7 +17,7 @@ pub struct Span {
 }
 
 /// A value, whose numbers and lists are its own and whose slices span a block.
-#[derive(Debug, Drop)]
+#[derive(Drop)]
 pub enum Value {
     Num(i128),
     SliceOf(Span),
@@ -27,7 +27,7 @@ pub enum Value {
 pub type Values = Items<Value>;
 
 /// Where a value stands in a block.
-#[derive(Debug, Drop, PartialEq, Eq)]
+#[derive(Drop, PartialEq, Eq)]
 pub struct Spot {
     pub block: u32,
     pub path: Items<u64>,
