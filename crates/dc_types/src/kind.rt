@@ -1,7 +1,7 @@
 // The kinds of numbers, and the operators on them.
 
 /// A kind of number, named after its width and sign (D specification, "Types", "Basic Data Types").
-#[derive(Clone, Copy, PartialEq, Eq, PartialOrd, Ord)]
+#[derive(Clone, Copy, PartialEq, Eq, PartialOrd, Ord, Hash)]
 pub enum Kind {
     /// `bool`: 0 or 1, in 8 bits.
     Bool,
