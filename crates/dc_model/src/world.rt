@@ -1,0 +1,246 @@
+// All tables of a program that is elaborated.
+use crate::{
+    Answer, Arg, Args, Bind, BindId, Cond, CondId, Decl, Flow, FlowId, FunctionSet, Item, ItemId,
+    ItemKind, Locals, Noted, Question, RowId, Rows, SetId, Stop, Symbol, Trace, Unit, Work, WorkId,
+};
+use dc_syntax::{List, NameId, Want};
+use dc_tree::{DeclId, PlaceId, Pool, SpotId, UnitId};
+use indexmap::{IndexMap, IndexSet};
+use std::alloc::Global;
+
+/// What is known of a program, and the tables to which judging adds.
+#[derive(Drop)]
+pub struct World {
+    pub alloc: Global,
+    pub pool: Pool,
+    // ---- facts
+    pub units: Vec<Unit>,
+    pub decls: Vec<Decl>,
+    pub rows: Rows,
+    pub conds: Vec<Cond>,
+    pub items: Vec<Item>,
+    pub modules: IndexMap<NameId, UnitId>,
+    pub versions: IndexSet<NameId>,
+    pub answers: IndexMap<Question, Answer>,
+    /// The symbols of rounds of `static foreach`.
+    pub rounds: Vec<Symbol>,
+    /// Declarations by their places.
+    pub placed: IndexMap<PlaceId, DeclId>,
+    // ---- what judging adds to
+    pub locals: Locals,
+    pub binds: Vec<Bind>,
+    pub spot_binds: IndexMap<SpotId, BindId>,
+    pub flows: Vec<Flow>,
+    pub sets: Vec<FunctionSet>,
+    pub set_members: Vec<u32>,
+    pub args: Vec<Arg>,
+    pub works: Vec<Work>,
+    pub instances: IndexMap<PlaceId, UnitId>,
+    pub trace: Trace,
+}
+
+fn number(index: usize) -> Result<u32, Want> {
+    match u32::try_from(index) {
+        Ok(n) => Ok(n),
+        Err(_) => Err(Want),
+    }
+}
+
+impl World {
+    pub fn new(alloc: Global) -> Result<World, Want> {
+        Ok(World {
+            alloc,
+            pool: Pool::new(alloc)?,
+            units: Vec::new(alloc),
+            decls: Vec::new(alloc),
+            rows: Rows::new(alloc),
+            conds: Vec::new(alloc),
+            items: Vec::new(alloc),
+            modules: IndexMap::new(alloc),
+            versions: IndexSet::new(alloc),
+            answers: IndexMap::new(alloc),
+            rounds: Vec::new(alloc),
+            placed: IndexMap::new(alloc),
+            locals: Locals::new(alloc),
+            binds: Vec::new(alloc),
+            spot_binds: IndexMap::new(alloc),
+            flows: Vec::new(alloc),
+            sets: Vec::new(alloc),
+            set_members: Vec::new(alloc),
+            args: Vec::new(alloc),
+            works: Vec::new(alloc),
+            instances: IndexMap::new(alloc),
+            trace: Trace {
+                noted: Vec::new(alloc),
+                found: Vec::new(alloc),
+            },
+        })
+    }
+
+    pub fn unit(&self, id: UnitId) -> Result<Unit, Stop> {
+        match self.units.get(id.0 as usize) {
+            Some(unit) => Ok(*unit),
+            None => Err(Stop::NoMemory),
+        }
+    }
+
+    pub fn decl(&self, id: DeclId) -> Result<Decl, Stop> {
+        match self.decls.get(id.0 as usize) {
+            Some(decl) => Ok(*decl),
+            None => Err(Stop::NoMemory),
+        }
+    }
+
+    pub fn cond(&self, id: CondId) -> Result<Cond, Stop> {
+        match self.conds.get(id.0 as usize) {
+            Some(cond) => Ok(*cond),
+            None => Err(Stop::NoMemory),
+        }
+    }
+
+    pub fn work(&self, id: WorkId) -> Result<Work, Stop> {
+        match self.works.get(id.0 as usize) {
+            Some(work) => Ok(*work),
+            None => Err(Stop::NoMemory),
+        }
+    }
+
+    pub fn add_unit(&mut self, unit: Unit) -> Result<UnitId, Want> {
+        let n = number(self.units.len())?;
+        self.units.push(unit)?;
+        Ok(UnitId(n))
+    }
+
+    pub fn add_decl(&mut self, decl: Decl) -> Result<DeclId, Want> {
+        let n = number(self.decls.len())?;
+        self.decls.push(decl)?;
+        Ok(DeclId(n))
+    }
+
+    pub fn add_work(&mut self, work: Work) -> Result<WorkId, Want> {
+        let n = number(self.works.len())?;
+        self.works.push(work)?;
+        Ok(WorkId(n))
+    }
+
+    pub fn add_flow(&mut self, flow: Flow) -> Result<FlowId, Want> {
+        let n = number(self.flows.len())?;
+        self.flows.push(flow)?;
+        Ok(FlowId(n))
+    }
+
+    pub fn add_args(&mut self, args: &[Arg]) -> Result<Args, Want> {
+        let from = number(self.args.len())?;
+        let len = number(args.len())?;
+        self.args.extend_from_slice(args)?;
+        Ok(Args { from, len })
+    }
+
+    pub fn args_of(&self, args: Args) -> &[Arg] {
+        let from = args.from as usize;
+        match self.args.get(from..from + args.len as usize) {
+            Some(args) => args,
+            None => &[],
+        }
+    }
+
+    pub fn add_set(&mut self, set: FunctionSet) -> Result<SetId, Want> {
+        let n = number(self.sets.len())?;
+        self.sets.push(set)?;
+        Ok(SetId(n))
+    }
+
+    pub fn set(&self, id: SetId) -> Result<FunctionSet, Stop> {
+        match self.sets.get(id.0 as usize) {
+            Some(set) => Ok(*set),
+            None => Err(Stop::NoMemory),
+        }
+    }
+
+    pub fn add_members(&mut self, members: &[u32]) -> Result<List, Want> {
+        let from = number(self.set_members.len())?;
+        let len = number(members.len())?;
+        self.set_members.extend_from_slice(members)?;
+        Ok(List { from, len })
+    }
+
+    pub fn members(&self, list: List) -> &[u32] {
+        let from = list.from as usize;
+        match self.set_members.get(from..from + list.len as usize) {
+            Some(members) => members,
+            None => &[],
+        }
+    }
+
+    /// The innermost name of a `static foreach` around a spot.
+    pub fn bind_of(&self, spot: SpotId) -> Option<BindId> {
+        self.spot_binds.get(&spot).copied()
+    }
+
+    pub fn bind(&self, id: BindId) -> Option<Bind> {
+        self.binds.get(id.0 as usize).copied()
+    }
+
+    pub fn add_bind(&mut self, spot: SpotId, bind: Bind) -> Result<(), Want> {
+        let n = number(self.binds.len())?;
+        self.binds.push(bind)?;
+        self.spot_binds.insert(spot, BindId(n))?;
+        Ok(())
+    }
+
+    /// The answer of a question that is answered.
+    pub fn answer(&self, question: Question) -> Option<Answer> {
+        self.answers.get(&question).copied()
+    }
+
+    /// The answer of a question, or the need for it.
+    pub fn ask(&mut self, question: Question, work: Work) -> Result<Answer, Stop> {
+        match self.answer(question) {
+            Some(answer) => Ok(answer),
+            None => {
+                let work = self.add_work(work)?;
+                Err(Stop::Need(question, work))
+            }
+        }
+    }
+
+    /// The declarations of a unit in text order, as far as they are introduced.
+    pub fn declarations(&self, unit: UnitId) -> Result<Vec<DeclId>, Stop> {
+        let mut all = Vec::new(self.alloc);
+        let mut work = Vec::new(self.alloc);
+        if let Some(first) = self.unit(unit)?.first {
+            work.push(first)?;
+        }
+        for _ in 0..u64::MAX {
+            let Some(id) = work.pop() else {
+                break;
+            };
+            let Some(item) = self.items.get(id.0 as usize).copied() else {
+                continue;
+            };
+            if let Some(next) = item.next {
+                work.push(next)?;
+            }
+            match item.kind {
+                ItemKind::Decl(decl) => all.push(decl)?,
+                ItemKind::Cond(_, Some(inner)) => work.push(inner)?,
+                ItemKind::Cond(_, None) => {}
+            }
+        }
+        Ok(all)
+    }
+
+    pub fn add_item(&mut self, item: Item) -> Result<ItemId, Want> {
+        let n = number(self.items.len())?;
+        self.items.push(item)?;
+        Ok(ItemId(n))
+    }
+
+    pub fn note(&mut self, noted: Noted, rows: &[RowId]) -> Result<(), Want> {
+        let from = number(self.trace.found.len())?;
+        let len = number(rows.len())?;
+        self.trace.found.extend_from_slice(rows)?;
+        self.trace.noted.push(Noted { from, len, ..noted })?;
+        Ok(())
+    }
+}
