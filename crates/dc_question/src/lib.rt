@@ -1,0 +1,10 @@
+//! Questions that elaboration asks, and their order.
+#![tactic(auto)]
+
+mod laws;
+mod question;
+
+pub use laws::order_laws;
+pub use question::Asked;
+pub use question::Question;
+pub use question::copy_question;

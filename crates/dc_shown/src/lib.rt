@@ -1,0 +1,10 @@
+//! The texts of types and values, as a program sees them.
+#![tactic(auto)]
+
+mod naming;
+mod shown;
+
+pub use naming::Naming;
+pub use shown::shown_laws;
+pub use shown::stringof_text;
+pub use shown::value_text;
