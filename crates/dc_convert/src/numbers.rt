@@ -10,7 +10,7 @@ use dc_candidate::Source;
 use dc_types::{BinOp, Kind, Ty, same_ty};
 
 /// The type that two operands have together.
-#[derive(Clone, Copy, PartialEq, Eq)]
+#[derive(Clone, Copy)]
 pub enum Joint {
     /// That of each, which is one.
     Same,

@@ -3,5 +3,5 @@ ghost use Rattle.dc_question.specs.Ordered.{QuestionOrder};
 
 /// The order of questions: by their places, and at one place by what is asked.
 pub fn order_laws()
-    ensures questions { QuestionOrder }
+    ensures { QuestionOrder }
 {}
