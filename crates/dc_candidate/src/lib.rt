@@ -6,32 +6,12 @@ mod param;
 mod pattern;
 mod range;
 
-pub use candidate::CallParam;
-pub use candidate::Candidate;
-pub use candidate::Candidates;
-pub use candidate::OverloadSet;
-pub use candidate::copy_call_param;
-pub use candidate::copy_call_params;
-pub use candidate::copy_candidate;
-pub use candidate::copy_candidates;
-pub use candidate::copy_overload_set;
-pub use param::Param;
-pub use param::Params;
-pub use param::Takes;
-pub use param::copy_param;
-pub use param::copy_params;
-pub use param::copy_takes;
-pub use pattern::IsBy;
-pub use pattern::IsForm;
-pub use pattern::Length;
-pub use pattern::Pattern;
-pub use pattern::Patterns;
-pub use pattern::copy_is_form;
-pub use pattern::copy_pattern;
-pub use pattern::copy_patterns;
-pub use range::ArgTypes;
-pub use range::Level;
-pub use range::Range;
-pub use range::Source;
-pub use range::copy_arg_types;
-pub use range::copy_source;
+pub use candidate::{
+    CallParam, Candidate, Candidates, OverloadSet, copy_call_param, copy_call_params,
+    copy_candidate, copy_candidates, copy_overload_set,
+};
+pub use param::{Param, Params, Takes, copy_param, copy_params, copy_takes};
+pub use pattern::{
+    IsBy, IsForm, Length, Pattern, Patterns, copy_is_form, copy_pattern, copy_patterns,
+};
+pub use range::{ArgTypes, Level, Range, Source, copy_arg_types, copy_source};

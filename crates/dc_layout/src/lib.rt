@@ -4,13 +4,8 @@
 mod layout;
 mod start;
 
-pub use layout::Field;
-pub use layout::Fields;
-pub use layout::LayoutDraft;
-pub use layout::Layouts;
-pub use layout::cells;
-pub use layout::copy_field;
-pub use layout::copy_fields;
-pub use layout::copy_layout_draft;
-pub use layout::copy_layouts;
+pub use layout::{
+    Field, Fields, LayoutDraft, Layouts, cells, copy_field, copy_fields, copy_layout_draft,
+    copy_layouts,
+};
 pub use start::init;

@@ -5,6 +5,4 @@ mod laws;
 mod question;
 
 pub use laws::order_laws;
-pub use question::Asked;
-pub use question::Question;
-pub use question::copy_question;
+pub use question::{Asked, Question, copy_question};

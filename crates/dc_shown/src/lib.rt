@@ -5,6 +5,4 @@ mod naming;
 mod shown;
 
 pub use naming::Naming;
-pub use shown::shown_laws;
-pub use shown::stringof_text;
-pub use shown::value_text;
+pub use shown::{shown_laws, stringof_text, value_text};

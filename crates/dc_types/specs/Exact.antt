@@ -29,12 +29,6 @@ pub both-Decides : {A B R : Type 0} (make : A → B → R) (x : R → A) (y : R 
 both-Decides make x y whole a b s t is_x is_y =
     Decides-like (s && t) (λ h. sym (whole a) ∙ ap (λ v. make v (y a)) h.0 ∙ ap (make (x b)) h.1 ∙ whole b) (λ e. (ap x e, ap y e)) (Decides-and s t is_x is_y)
 
--- and so with three parts
-pub three-Decides : {A B C R : Type 0} (make : A → B → C → R) (x : R → A) (y : R → B) (z : R → C) (whole : (r : R) → make (x r) (y r) (z r) ≡ r) (a b : R) (s t u : Bool) → Decides s (x a ≡ x b) → Decides t (y a ≡ y b) → Decides u (z a ≡ z b) → Decides (s && (t && u)) (a ≡ b)
-three-Decides make x y z whole a b s t u is_x is_y is_z =
-    Decides-like (s && (t && u)) (λ h. sym (whole a) ∙ ap (λ v. make v (y a) (z a)) h.0 ∙ ap (λ v. make (x b) v (z a)) h.1.0 ∙ ap (make (x b) (y b)) h.1.1 ∙ whole b) (λ e. (ap x e, (ap y e, ap z e)))
-    (Decides-and s (t && u) is_x (Decides-and t u is_y is_z))
-
 same_kind : (k : Kind) → sameb the_type k k ≡ true
 same_kind kinds.Bool = refl
 same_kind kinds.I8 = refl

@@ -61,4 +61,3 @@ pub enum ProbeState {
     /// The functions that were entered first, up to a limit.
     First { limit: u32, places: Places },
 }
-

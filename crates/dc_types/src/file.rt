@@ -7,4 +7,3 @@ pub struct File {
     pub path: Text,
     pub bytes: Text,
 }
-

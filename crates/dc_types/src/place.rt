@@ -55,4 +55,3 @@ pub fn copy_place(alloc: Global, place: &Place) -> Result<Place, AllocError>
         steps: copy_steps(alloc, &place.steps)?,
     })
 }
-

@@ -126,4 +126,3 @@ impl Ord for Text {
         self.bytes.as_slice().cmp(other.bytes.as_slice())
     }
 }
-

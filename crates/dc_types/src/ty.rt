@@ -90,4 +90,3 @@ impl Eq for Ty {
 
     ghost laws = { ty_laws };
 }
-

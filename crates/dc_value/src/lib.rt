@@ -3,11 +3,4 @@
 
 mod value;
 
-pub use value::Span;
-pub use value::Spot;
-pub use value::Value;
-pub use value::Values;
-pub use value::copy_span;
-pub use value::copy_spot;
-pub use value::copy_value;
-pub use value::copy_values;
+pub use value::{Span, Spot, Value, Values, copy_span, copy_spot, copy_value, copy_values};
