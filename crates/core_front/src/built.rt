@@ -6,7 +6,7 @@ use sqlite_items::{Boxed, Items as Children};
 
 /// The operators of chains of numbers (D specification, "Expressions", "Additive Expressions", "Multiplicative
 /// Expressions").
-#[derive(Clone, Copy, PartialEq, Eq)]
+#[derive(Clone, Copy)]
 pub enum Arithmetic {
     Multiply,
     Divide,

@@ -7,7 +7,7 @@ ghost use Rattle.core_front.specs.Naming.{by_number, name_of, place_of};
 
 use crate::Function;
 use crate::scope::numbered;
-use core_lower_expr::Table;
+use core_tree::Table;
 use dc_ast::Spelling;
 use dc_types::NoMemory;
 use std::alloc::Global;

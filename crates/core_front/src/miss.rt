@@ -3,7 +3,7 @@ use dc_types::NoMemory as WantsMemory;
 use std::alloc::{AllocError, AllocFailed};
 
 /// Why nothing was made of a tree.
-#[derive(Clone, Copy, PartialEq, Eq)]
+#[derive(Clone, Copy)]
 pub enum Miss {
     /// The form that begins at this offset isn't built.
     Unbuilt(u32),

@@ -5,7 +5,7 @@ ghost use Rattle.std.specs.Map.{lookup};
 ghost use Rattle.std.specs.Option.{option_copied};
 ghost use Rattle.core_front.specs.Naming.{by_number, name_of_local};
 
-use core_lower_expr::Table;
+use core_tree::Table;
 use dc_ast::{Name, Spelling};
 use dc_types::NoMemory;
 use std::alloc::Global;

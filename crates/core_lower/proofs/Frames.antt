@@ -1,6 +1,6 @@
 -- The variables of a function that begins.
 use Rattle.std.proofs.Common.{◌≡◌, ◌&&◌, List, [], ◌∷◌, ◌++◌, length, map, replicate, refl, sym, ap, ap₂, ◌∙◌, subst, arith, IsTrue, pos}
-use Rattle.dc_types.specs.declared.value.Value.{Value}
+use Rattle.dc_value.specs.declared.value.Value.{Value}
 use Rattle.dc_types.specs.Integers.{InKind}
 use Rattle.dc_types.proofs.Values.{zero_in_kind}
 use Rattle.dc_code.specs.Numbers.{word_of}

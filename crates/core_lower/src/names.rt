@@ -7,8 +7,7 @@ ghost use Rattle.core_tree.specs.Typed.{variables_of};
 ghost use Rattle.core_lower.specs.Lowered.{found_from, variable_places, body_places};
 ghost use Rattle.core_lower.specs.Choice.{else_found};
 
-use core_lower_expr::Table;
-use core_tree::{Body, Variable};
+use core_tree::{Body, Table, Variable};
 use dc_types::{NoMemory, Place, copy_place};
 use std::alloc::Global;
 

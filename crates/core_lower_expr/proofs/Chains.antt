@@ -3,7 +3,7 @@ use Rattle.std.proofs.Common.{◌≡◌, ℕ, ◌+◌, List, [], ◌∷◌, ◌+
 use Rattle.dc_types.specs.declared.kind.Kind.{Kind}
 use Rattle.dc_types.specs.declared.kind.BinOp.{BinOp}
 use Rattle.dc_types.specs.declared.place.Place.{Place}
-use Rattle.dc_types.specs.declared.value.Value.{Value}
+use Rattle.dc_value.specs.declared.value.Value.{Value}
 use Rattle.dc_code.specs.declared.instr.Instr.{Instr}
 use Rattle.core_tree.specs.Meaning.{State, Ran, Goes, Over, Part, and_then, both, operated, chained}
 use Rattle.core_tree.specs.declared.tree.Operation.{Operation}

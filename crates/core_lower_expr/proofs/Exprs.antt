@@ -13,7 +13,7 @@ use Rattle.dc_types.specs.declared.ty.Ty.TheViews.{out-Ty, out-roll-Ty}
 use Rattle.dc_types.specs.declared.constant.Const.{Const}
 use Rattle.dc_types.specs.declared.constant.CTree.TheOpen.{CTree-F}
 use Rattle.dc_types.specs.declared.constant.CTree.TheViews.{out-CTree}
-use Rattle.dc_types.specs.declared.value.Value.{Value}
+use Rattle.dc_value.specs.declared.value.Value.{Value}
 use Rattle.dc_types.specs.declared.event.Limits.{Limits}
 use Rattle.dc_types.specs.Integers.{InKind, least, greatest, compare}
 use Rattle.dc_types.specs.Exact.{ty-Decides}

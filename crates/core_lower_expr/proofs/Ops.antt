@@ -10,8 +10,8 @@ use Rattle.dc_types.specs.declared.ty.Ty.{Ty}
 use Rattle.dc_types.specs.declared.ty.Ty.TheOpen.{Ty-F}
 use Rattle.dc_types.specs.declared.ty.Ty.TheViews.{out-Ty}
 use Rattle.dc_types.specs.declared.constant.Const.{Const}
-use Rattle.dc_types.specs.declared.value.Value.TheOpen.{Value-F}
-use Rattle.dc_types.specs.declared.value.Value.TheViews.{out-roll-Value}
+use Rattle.dc_value.specs.declared.value.Value.TheOpen.{Value-F}
+use Rattle.dc_value.specs.declared.value.Value.TheViews.{out-roll-Value}
 use Rattle.dc_types.specs.declared.event.TrapKind.{TrapKind}
 use Rattle.dc_types.specs.declared.event.Limits.{Limits}
 use Rattle.dc_types.specs.Integers.{InKind, binary, compare}

@@ -6,7 +6,7 @@ use Rattle.dc_types.specs.declared.kind.Kind.TheVariants as kind
 use Rattle.dc_types.specs.declared.place.Place.{Place}
 use Rattle.dc_types.specs.declared.ty.Ty.{Ty}
 use Rattle.dc_types.specs.declared.ty.Ty.TheOpen.{Ty-F}
-use Rattle.dc_types.specs.declared.value.Value.{Value}
+use Rattle.dc_value.specs.declared.value.Value.{Value}
 use Rattle.dc_types.specs.declared.event.Event.TheVariants.{Print}
 use Rattle.dc_types.specs.declared.event.Limits.{Limits}
 use Rattle.dc_code.specs.State.{Machine, On}

@@ -3,7 +3,7 @@ use Rattle.std.specs.Prelude.{◌≡◌, ℕ, suc, List, [], ◌∷◌, Some, if
 use Rattle.dc_types.specs.declared.place.Place.{Place}
 use Rattle.dc_types.specs.declared.ty.Ty.{Ty}
 use Rattle.dc_types.specs.declared.ty.Ty.TheOpen.{Ty-F}
-use Rattle.dc_types.specs.declared.value.Value.{Value}
+use Rattle.dc_value.specs.declared.value.Value.{Value}
 use Rattle.dc_types.specs.Integers.{InKind}
 use Rattle.dc_types.specs.Same as same
 use Rattle.dc_code.specs.Numbers.{word_of}

@@ -3,9 +3,7 @@
 
 mod lower;
 mod slots;
-mod table;
 mod word;
 
 pub use lower::{lower_at, lower_expr, lowering_law, put_op};
 pub use slots::Slots;
-pub use table::Table;

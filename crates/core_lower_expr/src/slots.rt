@@ -2,7 +2,7 @@
 ghost use Rattle.std.specs.Prelude.{◌≡◌};
 ghost use Rattle.core_lower_expr.specs.Slots.{names_of};
 
-use crate::Table;
+use core_tree::Table;
 use dc_types::Place;
 
 /// What names stand for: the slot of each parameter and other variable, and the number of each function, by the places of

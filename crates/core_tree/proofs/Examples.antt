@@ -10,8 +10,8 @@ use Rattle.std.specs.Fmt.{digits}
 use Rattle.dc_types.specs.declared.ty.Ty.TheViews.{roll-Ty, out-Ty}
 use Rattle.dc_types.specs.declared.constant.CTree.TheOpen.{CTree-F}
 use Rattle.dc_types.specs.declared.constant.CTree.TheViews.{roll-CTree, out-CTree}
-use Rattle.dc_types.specs.declared.value.Value.{Value}
-use Rattle.dc_types.specs.declared.value.Value.TheViews.{roll-Value, out-Value}
+use Rattle.dc_value.specs.declared.value.Value.{Value}
+use Rattle.dc_value.specs.declared.value.Value.TheViews.{roll-Value, out-Value}
 use Rattle.dc_types.specs.declared.event.TrapKind.TheVariants.{Divide, Depth}
 use Rattle.dc_types.specs.declared.event.Event.{Event}
 use Rattle.dc_types.specs.declared.event.Event.TheVariants.{Enter, Turn, Print}

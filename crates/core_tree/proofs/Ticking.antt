@@ -4,7 +4,7 @@ use Rattle.std.specs.Prelude.{if◌then◌else◌}
 use Rattle.dc_types.specs.declared.kind.Kind.{Kind}
 use Rattle.dc_types.specs.declared.place.Place.{Place}
 use Rattle.dc_types.specs.declared.ty.Ty.{Ty}
-use Rattle.dc_types.specs.declared.value.Value.{Value}
+use Rattle.dc_value.specs.declared.value.Value.{Value}
 use Rattle.dc_types.specs.declared.event.TrapKind.{TrapKind}
 use Rattle.dc_types.specs.declared.event.TrapKind.TheVariants.{Depth}
 use Rattle.dc_types.specs.declared.event.Event.TheVariants.{Enter, Turn, Print}

@@ -5,7 +5,7 @@ use Rattle.dc_types.specs.declared.kind.Kind.{Kind}
 use Rattle.dc_types.specs.declared.kind.BinOp.{BinOp}
 use Rattle.dc_types.specs.declared.place.Place.{Place}
 use Rattle.dc_types.specs.declared.ty.Ty.{Ty}
-use Rattle.dc_types.specs.declared.value.Value.{Value}
+use Rattle.dc_value.specs.declared.value.Value.{Value}
 use Rattle.dc_types.specs.declared.event.TrapKind.{TrapKind}
 use Rattle.dc_types.specs.declared.event.TrapKind.TheVariants.{Depth}
 use Rattle.dc_types.specs.declared.event.Event.{Event}

@@ -10,9 +10,9 @@ use Rattle.dc_types.specs.declared.ty.Ty.TheViews.{out-Ty, roll-Ty}
 use Rattle.dc_types.specs.declared.constant.CTree.{CTree}
 use Rattle.dc_types.specs.declared.constant.CTree.TheOpen.{CTree-F}
 use Rattle.dc_types.specs.declared.constant.CTree.TheViews.{out-CTree}
-use Rattle.dc_types.specs.declared.value.Value.{Value}
-use Rattle.dc_types.specs.declared.value.Value.TheOpen.{Value-F}
-use Rattle.dc_types.specs.declared.value.Value.TheViews.{out-Value, roll-Value}
+use Rattle.dc_value.specs.declared.value.Value.{Value}
+use Rattle.dc_value.specs.declared.value.Value.TheOpen.{Value-F}
+use Rattle.dc_value.specs.declared.value.Value.TheViews.{out-Value, roll-Value}
 
 -- the type of the numbers of a kind, and `void`
 abbrev pub int : Kind → Ty

@@ -3,7 +3,7 @@ use dc_types::{BinOp, CmpOp, Const, Items, Kind, Place, Ty, Types};
 use sqlite_items::{Boxed, Items as Children};
 
 /// A variable of a function, a parameter among them: where it is declared, and its type.
-#[derive(Drop, PartialEq, Eq)]
+#[derive(Drop)]
 pub struct Variable {
     pub place: Place,
     pub ty: Ty,

@@ -2,7 +2,7 @@
 use crate::Spelling;
 
 /// What a token is. The parser tells words and signs of one kind apart by their spelling.
-#[derive(Clone, Copy, PartialEq, Eq)]
+#[derive(Clone, Copy)]
 pub enum TokenKind {
     /// A name.
     Id,

@@ -2,7 +2,7 @@
 use crate::{DeclId, UnitId};
 use dc_syntax::{NameId, Want};
 use dc_types::Kind;
-use indexmap::IndexSet;
+use indexmap::IndexMap;
 use std::alloc::Global;
 
 /// The number of a type. Equal types have equal numbers.
@@ -10,7 +10,7 @@ use std::alloc::Global;
 pub struct TypeId(pub u32);
 
 /// A type (D specification, "Types").
-#[derive(Clone, Copy, PartialEq, Eq, Hash)]
+#[derive(Clone, Copy, PartialEq, Eq)]
 pub enum Type {
     Void,
     Int(Kind),
@@ -31,9 +31,20 @@ pub enum Type {
     Opaque(DeclId, NameId),
 }
 
+/// What tells a type that isn't basic from others.
+#[derive(Clone, Copy, PartialEq, Eq, Hash)]
+enum Key {
+    Fixed(TypeId, u32),
+    Slice(TypeId),
+    Struct(UnitId),
+    Enum(DeclId, TypeId),
+    Opaque(DeclId, NameId),
+}
+
 #[derive(Drop)]
 pub struct Types {
-    known: IndexSet<Type>,
+    all: Vec<Type>,
+    known: IndexMap<Key, TypeId>,
 }
 
 /// The basic types, in the order of their numbers.
@@ -93,26 +104,44 @@ impl TypeId {
 impl Types {
     /// The basic types alone.
     pub fn new(alloc: Global) -> Result<Types, Want> {
-        let mut types = Types {
-            known: IndexSet::new(alloc),
-        };
-        for of in &BASIC {
-            types.number(*of)?;
+        let mut all = Vec::new(alloc);
+        all.extend_from_slice(&BASIC)?;
+        Ok(Types {
+            all,
+            known: IndexMap::new(alloc),
+        })
+    }
+
+    fn keyed(&mut self, key: Key, of: Type) -> Result<TypeId, Want> {
+        if let Some(known) = self.known.get(&key) {
+            return Ok(*known);
         }
-        Ok(types)
+        let Ok(n) = u32::try_from(self.all.len()) else {
+            return Err(Want);
+        };
+        self.all.push(of)?;
+        self.known.insert(key, TypeId(n))?;
+        Ok(TypeId(n))
     }
 
     /// The number of a type, which is added where it is new.
     pub fn number(&mut self, of: Type) -> Result<TypeId, Want> {
-        let (index, _) = self.known.insert_full(of)?;
-        match u32::try_from(index) {
-            Ok(n) => Ok(TypeId(n)),
-            Err(_) => Err(Want),
+        match of {
+            Type::Void => Ok(TypeId::VOID),
+            Type::Int(kind) => Ok(TypeId::of_kind(kind)),
+            Type::Str => Ok(TypeId::STRING),
+            Type::Null => Ok(TypeId::NULL),
+            Type::Empty => Ok(TypeId::EMPTY),
+            Type::Fixed(item, len) => self.keyed(Key::Fixed(item, len), of),
+            Type::Slice(item) => self.keyed(Key::Slice(item), of),
+            Type::Struct(unit) => self.keyed(Key::Struct(unit), of),
+            Type::Enum(decl, base) => self.keyed(Key::Enum(decl, base), of),
+            Type::Opaque(decl, name) => self.keyed(Key::Opaque(decl, name), of),
         }
     }
 
     pub fn get(&self, id: TypeId) -> Type {
-        match self.known.get_index(id.0 as usize) {
+        match self.all.get(id.0 as usize) {
             Some(of) => *of,
             None => Type::Void,
         }

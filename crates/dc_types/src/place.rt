@@ -1,7 +1,7 @@
 // Where something stands.
 ghost use Rattle.std.specs.Prelude.{◌≡◌, IfOk};
 
-use crate::{Items, Places, Steps, Text};
+use crate::{Items, Steps, Text};
 use std::alloc::{AllocError, Global};
 
 /// One step of a place, from the file inwards.
@@ -54,15 +54,4 @@ pub fn copy_place(alloc: Global, place: &Place) -> Result<Place, AllocError>
         module: Text::copy_of(alloc, place.module.as_slice())?,
         steps: copy_steps(alloc, &place.steps)?,
     })
-}
-
-/// A copy that is equal.
-pub fn copy_places(alloc: Global, places: &Places) -> Result<Places, AllocError>
-    ensures { IfOk result (λ copy. copy ≡ places.now) }
-{
-    let mut copy = Items::new(alloc);
-    for place in places.as_slice() {
-        copy.push(copy_place(alloc, place)?)?;
-    }
-    Ok(copy)
 }

@@ -90,14 +90,3 @@ impl Eq for Ty {
 
     ghost laws = { ty_laws };
 }
-
-/// A copy that is equal.
-pub fn copy_types(alloc: Global, types: &Types) -> Result<Types, AllocError>
-    ensures { IfOk result (λ copy. copy ≡ types.now) }
-{
-    let mut copy = Items::new(alloc);
-    for ty in types.as_slice() {
-        copy.push(copy_ty(alloc, ty)?)?;
-    }
-    Ok(copy)
-}
