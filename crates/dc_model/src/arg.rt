@@ -12,6 +12,17 @@ pub enum Arg {
     OfSymbol(Symbol, PlaceId),
 }
 
+impl Arg {
+    /// What a parameter that is bound to it stands for.
+    pub fn symbol(self) -> Symbol {
+        match self {
+            Arg::OfType(of) => Symbol::Type(of),
+            Arg::OfValue(of, value) => Symbol::Value(of, value),
+            Arg::OfSymbol(symbol, _) => symbol,
+        }
+    }
+}
+
 /// A stretch of the table of arguments.
 #[derive(Clone, Copy, PartialEq, Eq)]
 pub struct Args {

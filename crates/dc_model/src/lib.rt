@@ -24,7 +24,7 @@ pub use env::{Env, Flow, FlowId, FlowKind};
 pub use local::{Bind, BindId, Block, BlockId, Locals};
 pub use row::{Import, ImportForm, Row, RowId, Rows};
 pub use stop::{Refused, Stop};
-pub use symbol::{FunctionSet, Package, SetId, Symbol};
+pub use symbol::{Dotted, FunctionSet, Package, SetId, Symbol};
 pub use trace::{Lookup, Noted, Trace};
 pub use unit::{Unit, UnitKind};
 pub use world::World;

@@ -37,11 +37,19 @@ pub enum Symbol {
 pub struct Package {
     /// The name so far.
     pub prefix: NameId,
-    /// The scopes whose imports are asked: the lookup's number in the table of packages.
-    pub modules: u32,
-    /// The longest module so far, and how many names behind it have been read.
+    /// The dotted names of the modules: a stretch of the table of paths.
+    pub paths: List,
+    /// The longest module so far.
     pub best: Option<UnitId>,
-    pub rest: u32,
+    /// The names behind that module: a stretch of the table of dotted names.
+    pub rest: List,
+}
+
+/// A name behind a `.`, and its offset.
+#[derive(Clone, Copy)]
+pub struct Dotted {
+    pub name: NameId,
+    pub at: u32,
 }
 
 /// Functions of one name, in sets: one for each unit that they stand in.

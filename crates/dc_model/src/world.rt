@@ -1,10 +1,10 @@
 // All tables of a program that is elaborated.
 use crate::{
-    Answer, Arg, Args, Bind, BindId, Cond, CondId, Decl, Flow, FlowId, FunctionSet, Item, ItemId,
-    ItemKind, Locals, Noted, Question, RowId, Rows, SetId, Stop, Symbol, Trace, Unit, Work, WorkId,
+    Answer, Arg, Args, Bind, BindId, Cond, CondId, Decl, Dotted, Flow, FlowId, FunctionSet, Item, ItemId,
+    ItemKind, Locals, Noted, Question, Refused, RowId, Rows, SetId, Stop, Symbol, Trace, Unit, UnitKind, Work, WorkId,
 };
-use dc_syntax::{List, NameId, Want};
-use dc_tree::{DeclId, PlaceId, Pool, SpotId, UnitId};
+use dc_syntax::{Form, List, NameId, NodeId, Want};
+use dc_tree::{DeclId, PlaceId, PlaceStep, Pool, SpotId, UnitId, Where};
 use indexmap::{IndexMap, IndexSet};
 use std::alloc::Global;
 
@@ -35,6 +35,9 @@ pub struct World {
     pub set_members: Vec<u32>,
     pub args: Vec<Arg>,
     pub works: Vec<Work>,
+    /// Dotted names of modules.
+    pub paths: Vec<NameId>,
+    pub dotted: Vec<Dotted>,
     pub instances: IndexMap<PlaceId, UnitId>,
     pub trace: Trace,
 }
@@ -69,6 +72,8 @@ impl World {
             set_members: Vec::new(alloc),
             args: Vec::new(alloc),
             works: Vec::new(alloc),
+            paths: Vec::new(alloc),
+            dotted: Vec::new(alloc),
             instances: IndexMap::new(alloc),
             trace: Trace {
                 noted: Vec::new(alloc),
@@ -186,6 +191,109 @@ impl World {
         self.binds.push(bind)?;
         self.spot_binds.insert(spot, BindId(n))?;
         Ok(())
+    }
+
+    pub fn paths_of(&self, list: List) -> &[NameId] {
+        let from = list.from as usize;
+        match self.paths.get(from..from + list.len as usize) {
+            Some(paths) => paths,
+            None => &[],
+        }
+    }
+
+    pub fn add_paths(&mut self, paths: &[NameId]) -> Result<List, Want> {
+        let from = number(self.paths.len())?;
+        let len = number(paths.len())?;
+        self.paths.extend_from_slice(paths)?;
+        Ok(List { from, len })
+    }
+
+    pub fn dotted_of(&self, list: List) -> &[Dotted] {
+        let from = list.from as usize;
+        match self.dotted.get(from..from + list.len as usize) {
+            Some(dotted) => dotted,
+            None => &[],
+        }
+    }
+
+    pub fn add_dotted(&mut self, dotted: &[Dotted]) -> Result<List, Want> {
+        let from = number(self.dotted.len())?;
+        let len = number(dotted.len())?;
+        self.dotted.extend_from_slice(dotted)?;
+        Ok(List { from, len })
+    }
+
+    /// The module in which a spot lies.
+    pub fn module_of(&self, spot: SpotId) -> PlaceId {
+        let mut place = self.pool.places.spot(spot).text;
+        for _ in 0..u64::MAX {
+            if let PlaceStep::Module(_) = self.pool.places.step(place) {
+                break;
+            }
+            place = self.pool.places.before(place);
+        }
+        place
+    }
+
+    /// The place of a unit: of a module itself, else where its declaration stands.
+    pub fn place_of(&mut self, unit: UnitId) -> Result<PlaceId, Stop> {
+        let known = self.unit(unit)?;
+        match known.kind {
+            UnitKind::Module => Ok(self.pool.places.spot(known.spot).text),
+            UnitKind::Struct | UnitKind::Instance => Ok(self.pool.places.place(known.at)?),
+        }
+    }
+
+    /// A broken rule.
+    pub fn refuse<T>(&mut self, rule: u8, at: Where, detail: Option<NameId>) -> Result<T, Stop> {
+        let place = self.pool.places.place(at)?;
+        Err(Stop::Failed(Refused {
+            rule,
+            place,
+            detail,
+        }))
+    }
+
+    /// What a template's parameter of that name stands for in an instance.
+    pub fn parameter(&self, unit: UnitId, name: NameId) -> Result<Option<Symbol>, Stop> {
+        let known = self.unit(unit)?;
+        let (Some(args), Some(template)) = (known.args, known.decl) else {
+            return Ok(None);
+        };
+        let Some(parameters) = self.parameters_of(template)? else {
+            return Ok(None);
+        };
+        let names = self.pool.syntax.numbers(parameters);
+        for (n, arg) in names.iter().zip(self.args_of(args).iter()) {
+            if self.parameter_name(NodeId(*n)) == Some(name) {
+                return Ok(Some(arg.symbol()));
+            }
+        }
+        Ok(None)
+    }
+
+    /// The template parameters of a declaration.
+    pub fn parameters_of(&self, decl: DeclId) -> Result<Option<List>, Stop> {
+        let syntax = &self.pool.syntax;
+        Ok(match syntax.node(self.decl(decl)?.node).form {
+            Form::Function(n) => syntax.functions.get(n as usize).and_then(|f| f.template_parameters),
+            Form::Struct(n) | Form::Template(n) => {
+                syntax.structs.get(n as usize).and_then(|s| s.parameters)
+            }
+            Form::Constant(n) => syntax.constants.get(n as usize).and_then(|c| c.parameters),
+            Form::Alias(n) => syntax.aliases.get(n as usize).and_then(|a| a.parameters),
+            _ => None,
+        })
+    }
+
+    /// The name of a template's parameter.
+    pub fn parameter_name(&self, n: NodeId) -> Option<NameId> {
+        match self.pool.syntax.node(n).form {
+            Form::TypeParameter(name) | Form::ValueParameter(_, name) | Form::AliasParameter(name) => {
+                Some(name)
+            }
+            _ => None,
+        }
     }
 
     /// The answer of a question that is answered.
