@@ -54,6 +54,8 @@ pub enum Work {
     Eval(TreeId),
     /// The initialiser of a variable, a field, a constant or an enum's member.
     Initial(DeclId),
+    /// The instance, which is introduced.
+    Instance(UnitId),
     /// The constraint of an instance.
     Constraint(UnitId),
     /// A conditional of a unit.

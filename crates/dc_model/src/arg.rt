@@ -1,6 +1,5 @@
 // Arguments of templates.
 use crate::Symbol;
-use dc_syntax::NodeId;
 use dc_tree::{PlaceId, TypeId, ValueId};
 
 /// An argument of a template's instance.
@@ -10,15 +9,18 @@ pub enum Arg {
     OfValue(TypeId, ValueId),
     /// A declaration, a module or an instance, and its place.
     OfSymbol(Symbol, PlaceId),
+    /// Of a parameter that isn't bound yet.
+    Missing,
 }
 
 impl Arg {
     /// What a parameter that is bound to it stands for.
-    pub fn symbol(self) -> Symbol {
+    pub fn symbol(self) -> Option<Symbol> {
         match self {
-            Arg::OfType(of) => Symbol::Type(of),
-            Arg::OfValue(of, value) => Symbol::Value(of, value),
-            Arg::OfSymbol(symbol, _) => symbol,
+            Arg::OfType(of) => Some(Symbol::Type(of)),
+            Arg::OfValue(of, value) => Some(Symbol::Value(of, value)),
+            Arg::OfSymbol(symbol, _) => Some(symbol),
+            Arg::Missing => None,
         }
     }
 }
@@ -28,11 +30,4 @@ impl Arg {
 pub struct Args {
     pub from: u32,
     pub len: u32,
-}
-
-/// An argument as it is written: a variable's value is asked only where a parameter wants a value.
-#[derive(Clone, Copy)]
-pub struct ArgNode {
-    pub arg: Arg,
-    pub node: NodeId,
 }

@@ -17,7 +17,7 @@ mod unit;
 mod world;
 
 pub use answer::{Answer, Ask, Question, Work, WorkId};
-pub use arg::{Arg, ArgNode, Args};
+pub use arg::{Arg, Args};
 pub use cond::{Cond, CondId, Item, ItemId, ItemKind};
 pub use decl::{Decl, DeclKind};
 pub use env::{Env, Flow, FlowId, FlowKind};

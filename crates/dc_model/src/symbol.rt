@@ -28,6 +28,8 @@ pub enum Symbol {
     Tree(TreeId),
     /// Member functions of a value.
     Method(TreeId, SetId),
+    /// What the question about a declaration answers.
+    Asked(DeclId),
     /// Of the answer of a variable or a field: its type.
     VariableType(TypeId),
 }

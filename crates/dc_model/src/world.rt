@@ -1,6 +1,6 @@
 // All tables of a program that is elaborated.
 use crate::{
-    Answer, Arg, Args, Bind, BindId, Cond, CondId, Decl, Dotted, Flow, FlowId, FunctionSet, Item, ItemId,
+    Answer, Arg, Args, Bind, BindId, BlockId, Cond, CondId, Decl, Dotted, Flow, FlowId, FunctionSet, Item, ItemId,
     ItemKind, Locals, Noted, Question, Refused, RowId, Rows, SetId, Stop, Symbol, Trace, Unit, UnitKind, Work, WorkId,
 };
 use dc_syntax::{Form, List, NameId, NodeId, Want};
@@ -39,6 +39,8 @@ pub struct World {
     pub paths: Vec<NameId>,
     pub dotted: Vec<Dotted>,
     pub instances: IndexMap<PlaceId, UnitId>,
+    /// The blocks in which the members of enums are names.
+    pub enum_blocks: IndexMap<DeclId, BlockId>,
     pub trace: Trace,
 }
 
@@ -75,6 +77,7 @@ impl World {
             paths: Vec::new(alloc),
             dotted: Vec::new(alloc),
             instances: IndexMap::new(alloc),
+            enum_blocks: IndexMap::new(alloc),
             trace: Trace {
                 noted: Vec::new(alloc),
                 found: Vec::new(alloc),
@@ -266,7 +269,7 @@ impl World {
         let names = self.pool.syntax.numbers(parameters);
         for (n, arg) in names.iter().zip(self.args_of(args).iter()) {
             if self.parameter_name(NodeId(*n)) == Some(name) {
-                return Ok(Some(arg.symbol()));
+                return Ok(arg.symbol());
             }
         }
         Ok(None)

@@ -16,6 +16,8 @@ pub struct Tree {
     pub at: Where,
     /// Of a number or an enum of numbers.
     pub range: RangeId,
+    /// Its value, where that is known without a run.
+    pub value: Option<ValueId>,
     /// Whether it is a place: a variable, a field or an element of one.
     pub is_place: bool,
     /// Whether that place can't be written.
@@ -156,6 +158,7 @@ impl Trees {
                     at: 0,
                 },
                 range: crate::Ranges::NONE,
+                value: None,
                 is_place: false,
                 read_only: false,
                 root: None,

@@ -149,16 +149,42 @@ impl Types {
 
     /// The kind of a number or of an enum over numbers.
     pub fn kind(&self, id: TypeId) -> Option<Kind> {
-        match self.get(id) {
+        match self.get(self.base(id)) {
             Type::Int(kind) => Some(kind),
-            Type::Enum(_, base) => match self.get(base) {
-                Type::Int(kind) => Some(kind),
-                Type::Enum(_, inner) => match self.get(inner) {
-                    Type::Int(kind) => Some(kind),
-                    _ => None,
-                },
-                _ => None,
-            },
+            _ => None,
+        }
+    }
+
+    /// The type of the elements of an array.
+    pub fn element(&self, id: TypeId) -> Option<TypeId> {
+        match self.get(id) {
+            Type::Slice(item) | Type::Fixed(item, _) => Some(item),
+            Type::Str => Some(TypeId::CHAR),
+            _ => None,
+        }
+    }
+
+    /// Whether it is a slice, `string` among them.
+    pub fn is_slice(&self, id: TypeId) -> bool {
+        match self.get(id) {
+            Type::Slice(_) | Type::Str => true,
+            _ => false,
+        }
+    }
+
+    /// Whether it is `string` or `char[]`.
+    pub fn is_text(&self, id: TypeId) -> bool {
+        match self.get(id) {
+            Type::Str => true,
+            Type::Slice(item) => item == TypeId::CHAR,
+            _ => false,
+        }
+    }
+
+    /// The length of a fixed array.
+    pub fn fixed_length(&self, id: TypeId) -> Option<u32> {
+        match self.get(id) {
+            Type::Fixed(_, len) => Some(len),
             _ => None,
         }
     }
