@@ -4,11 +4,13 @@
 //! by its number: a node says its form and the numbers of its parts, and a list is a stretch of a table of numbers.
 #![tactic(auto)]
 
+mod flat;
 mod names;
 mod node;
 mod parts;
 mod syntax;
 
+pub use flat::{flat_declarations, flat_expression, flat_module, flat_statements};
 pub use names::{NameId, Names};
 pub use node::{Form, List, Node, NodeId};
 pub use parts::{

@@ -22,6 +22,10 @@ impl Names {
         }
     }
 
+    pub(crate) fn alloc(&self) -> Global {
+        self.alloc
+    }
+
     /// The number of the name, which is added where it is new.
     pub fn number(&mut self, bytes: &[u8]) -> Result<NameId, Want> {
         if let Some(known) = self.find(bytes) {

@@ -125,6 +125,7 @@ pub enum Form {
     If(List, Option<NodeId>),
     IfBranch(NodeId, NodeId),
     While(NodeId, NodeId),
+    /// A body, and the condition behind it.
     Do(NodeId, NodeId),
     For(u32),
     Foreach(u32),

@@ -50,6 +50,13 @@ pub(crate) fn next_number(len: usize) -> Result<u32, Want> {
     }
 }
 
+/// Appends an item to a table, and gives its number.
+pub(crate) fn put<T: Drop>(table: &mut Vec<T>, item: T) -> Result<u32, Want> {
+    let n = next_number(table.len())?;
+    table.push(item)?;
+    Ok(n)
+}
+
 impl Syntax {
     pub fn new(alloc: Global) -> Syntax {
         Syntax {
