@@ -7,7 +7,7 @@ use std::cmp::Ordering;
 use std::marker::Model;
 
 /// The bytes of a name or of a literal as they are written, which contracts see as a list.
-#[derive(Debug, Drop)]
+#[derive(Drop)]
 pub struct Spelling {
     bytes: Vec<u8>,
 }
@@ -102,7 +102,7 @@ impl Ord for Spelling {
 }
 
 /// A name that is written in the text.
-#[derive(Debug, Drop)]
+#[derive(Drop)]
 pub struct Name {
     pub spelling: Spelling,
     pub at: u32,

@@ -1,7 +1,7 @@
 // Words and signs that stand in trees.
 
 /// A basic type (D specification, "Types", "Basic Data Types").
-#[derive(Clone, Copy, Debug, PartialEq, Eq, PartialOrd, Ord)]
+#[derive(Clone, Copy, PartialEq, Eq)]
 pub enum BasicType {
     Void,
     Bool,
@@ -17,7 +17,7 @@ pub enum BasicType {
 }
 
 /// An operator before its operand (D specification, "Expressions", "Unary Expressions").
-#[derive(Clone, Copy, Debug, PartialEq, Eq, PartialOrd, Ord)]
+#[derive(Clone, Copy)]
 pub enum UnaryOperator {
     /// `-`
     Minus,
@@ -34,7 +34,7 @@ pub enum UnaryOperator {
 }
 
 /// An operator between two operands (D specification, "Expressions").
-#[derive(Clone, Copy, Debug, PartialEq, Eq, PartialOrd, Ord)]
+#[derive(Clone, Copy)]
 pub enum BinaryOperator {
     /// `*`
     Multiply,
@@ -79,7 +79,7 @@ pub enum BinaryOperator {
 }
 
 /// An operator that assigns (D specification, "Expressions", "Assign Expressions").
-#[derive(Clone, Copy, Debug, PartialEq, Eq, PartialOrd, Ord)]
+#[derive(Clone, Copy)]
 pub enum AssignOperator {
     /// `=`
     Assign,
@@ -110,7 +110,7 @@ pub enum AssignOperator {
 }
 
 /// What an `is` asks of two types.
-#[derive(Clone, Copy, Debug, PartialEq, Eq, PartialOrd, Ord)]
+#[derive(Clone, Copy)]
 pub enum IsRelation {
     /// `==`
     Same,
@@ -119,20 +119,20 @@ pub enum IsRelation {
 }
 
 /// `const` or `immutable` before a declaration.
-#[derive(Clone, Copy, Debug, PartialEq, Eq, PartialOrd, Ord)]
+#[derive(Clone, Copy)]
 pub enum Storage {
     Const,
     Immutable,
 }
 
-#[derive(Clone, Copy, Debug, PartialEq, Eq, PartialOrd, Ord)]
+#[derive(Clone, Copy)]
 pub enum Visibility {
     Private,
     Public,
 }
 
 /// A word before a declaration (D specification, "Attributes").
-#[derive(Clone, Copy, Debug, PartialEq, Eq, PartialOrd, Ord)]
+#[derive(Clone, Copy)]
 pub enum Attribute {
     Private,
     Public,

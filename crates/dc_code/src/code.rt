@@ -8,7 +8,7 @@ use std::marker::Model;
 pub type Words = Items<u64>;
 
 /// Code that nothing is known of.
-#[derive(Debug, Drop)]
+#[derive(Drop)]
 pub struct Draft {
     pub functions: Items<Function>,
     pub instrs: Items<Instr>,
@@ -21,7 +21,7 @@ pub struct Draft {
 }
 
 /// Sound code, which contracts see as a draft.
-#[derive(Debug, Drop)]
+#[derive(Drop)]
 pub struct Code {
     draft: Draft,
 }

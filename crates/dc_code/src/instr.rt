@@ -4,7 +4,7 @@ use dc_types::{BinOp, CmpOp, Kind, Place, TrapKind, UnOp};
 /// What an instruction does. In the names of operands `d`, `a`, `b`, `s`, `v` and `p` are slots of the frame: `d`
 /// takes the result, `v` is the first of the three of a slice (block, start, length), `p` the first of the two of an
 /// address (block, offset). `n` is a number of words, `c` the cells of an element, `t` the number of an instruction.
-#[derive(Clone, Copy, Debug, PartialEq, Eq)]
+#[derive(Clone, Copy)]
 pub enum Op {
     /// `Const(d, w)`: the word `w`.
     Const(u32, u64),
@@ -83,14 +83,14 @@ pub enum Op {
 }
 
 /// An instruction, with the place of what it was made for.
-#[derive(Debug, Drop)]
+#[derive(Drop)]
 pub struct Instr {
     pub place: Place,
     pub op: Op,
 }
 
 /// A function of the code.
-#[derive(Debug, Drop)]
+#[derive(Drop)]
 pub struct Function {
     pub place: Place,
     /// The number of its first instruction.

@@ -15,6 +15,3 @@ pub use copy::copy_code;
 pub use instr::{Function, Instr, Op};
 pub use laws::{ends_well, is_sound, keeps_standing, runs_once, ticks_bound};
 pub use run::{Block, Caller, Nest};
-
-#[cfg(test)]
-mod tests;

@@ -2,7 +2,7 @@
 use crate::Words;
 
 /// The calls that are open: their number, and the sum of their weights. An entry's frame counts to neither.
-#[derive(Clone, Copy, Debug, PartialEq, Eq)]
+#[derive(Clone, Copy)]
 pub struct Nest {
     pub depth: u64,
     pub weight: u64,
@@ -10,7 +10,7 @@ pub struct Nest {
 
 /// Where a call goes on in its caller: the next instruction, the frame's first word, the first slot of the result,
 /// and the open calls there.
-#[derive(Clone, Copy, Debug, PartialEq, Eq)]
+#[derive(Clone, Copy)]
 pub struct Caller {
     pub pc: usize,
     pub base: usize,
@@ -19,7 +19,7 @@ pub struct Caller {
 }
 
 /// Words of an array, a module variable or data, and whether an append may lengthen them in place.
-#[derive(Debug, Drop)]
+#[derive(Drop)]
 pub struct Block {
     pub words: Words,
     pub growable: bool,

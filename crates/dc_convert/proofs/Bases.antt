@@ -2,7 +2,7 @@
 use Rattle.std.proofs.Common.{◌≡◌, ◌∙◌, refl, sym, ap, subst, ℕ, ◌==◌, Bool, ◌&&◌, ◌||◌, List, [], ◌∷◌, map, length, Some}
 use Rattle.std.proofs.lemmas.List.{length-map}
 use Rattle.dc_types.specs.declared.place.Place.{Place}
-use Rattle.dc_types.specs.declared.range.Range.{Range}
+use Rattle.dc_candidate.specs.declared.range.Range.{Range}
 use Rattle.dc_types.specs.declared.ty.Ty.{Ty, map-Ty}
 use Rattle.dc_types.specs.declared.ty.Ty.TheVariants as ty
 use Rattle.dc_types.specs.declared.ty.Ty.TheVariants.{rolls-Enum, rolls-Fixed, rolls-Slice, rolls-Str}
@@ -11,7 +11,7 @@ use Rattle.dc_types.specs.declared.ty.Ty.TheOpen.{Ty-F}
 use Rattle.dc_types.specs.declared.ty.Ty.TheFolds.{fold-roll-Ty, ind-Ty}
 use Rattle.dc_types.specs.Same as same
 use Rattle.dc_types.specs.declared.kind.Kind.TheVariants as kinds
-use Rattle.dc_types.specs.declared.range.Source.{Source}
+use Rattle.dc_candidate.specs.declared.range.Source.{Source}
 use Rattle.std.specs.List.{list_all}
 use Rattle.dc_convert.specs.Levels.{Tests, tests, goes, goes_at, literal_at, fits}
 

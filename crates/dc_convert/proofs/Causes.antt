@@ -2,8 +2,8 @@
 use Rattle.std.proofs.Common.{◌≡◌, ◌∙◌, refl, sym, subst, ℕ, zero, suc, ◌<◌, ◌⊎◌, inl, inr, List, arith}
 use Rattle.std.specs.List.{All, Contains}
 use Rattle.std.proofs.lemmas.List.Elements.{All-contains, All-contains_itself}
-use Rattle.dc_types.specs.declared.range.Source.{Source}
-use Rattle.dc_types.specs.declared.candidate.Candidate.{Candidate}
+use Rattle.dc_candidate.specs.declared.range.Source.{Source}
+use Rattle.dc_candidate.specs.declared.candidate.Candidate.{Candidate}
 use Rattle.dc_convert.specs.Best.{Numbered, numbered, level_of, Beats, IsBest, Ambiguous, BeatsAll, MatchInTwo, IsUndecided, Causes}
 use Rattle.dc_convert.proofs.Numbering.{are_numbered}
 use Rattle.dc_convert.proofs.Choosing.{one_beats}

@@ -11,7 +11,7 @@ use Rattle.std.proofs.lemmas.Int.{ints, clamps, to_z-of_z, quot_fits}
 use Rattle.dc_types.specs.Integers.{least, greatest}
 use Rattle.dc_types.specs.declared.kind.Kind.{Kind}
 use Rattle.dc_types.specs.declared.kind.Kind.TheVariants as kinds
-use Rattle.dc_types.specs.declared.range.Range.{Range}
+use Rattle.dc_candidate.specs.declared.range.Range.{Range}
 use Rattle.dc_convert.specs.Ranges.{IsRange, IsWide, whole, lies, fitted, spanned, above_zero, from_zero}
 
 abbrev pub of_ends : ℤ → ℤ → Range

@@ -5,16 +5,16 @@ use Rattle.std.proofs.lemmas.Int.{ints}
 use Rattle.std.proofs.lemmas.List.Elements.{All-nil, All-cons}
 use Rattle.dc_types.specs.declared.kind.Kind.{Kind}
 use Rattle.dc_types.specs.declared.kind.Kind.TheVariants as kinds
-use Rattle.dc_types.specs.declared.range.Range.{Range}
-use Rattle.dc_types.specs.declared.range.Source.{Source, roll-Source, out-roll-Source}
-use Rattle.dc_types.specs.declared.range.Source.TheFolds.{fold-roll-Source}
+use Rattle.dc_candidate.specs.declared.range.Range.{Range}
+use Rattle.dc_candidate.specs.declared.range.Source.{Source, roll-Source, out-roll-Source}
+use Rattle.dc_candidate.specs.declared.range.Source.TheFolds.{fold-roll-Source}
 use Rattle.dc_types.specs.declared.ty.Ty.{Ty, map-Ty}
 use Rattle.dc_types.specs.declared.ty.Ty.TheViews.{roll-Ty, out-Ty, out-roll-Ty}
 use Rattle.dc_types.specs.declared.ty.Ty.TheFolds.{fold-roll-Ty}
 use Rattle.dc_types.specs.Same as same
 use Rattle.dc_types.specs.declared.ty.Ty.TheOpen.{Ty-F}
-use Rattle.dc_types.specs.declared.candidate.CallParam.{CallParam}
-use Rattle.dc_types.specs.declared.candidate.Candidate.{Candidate}
+use Rattle.dc_candidate.specs.declared.candidate.CallParam.{CallParam}
+use Rattle.dc_candidate.specs.declared.candidate.Candidate.{Candidate}
 use Rattle.dc_types.specs.Integers.{bits_of, is_signed, least, greatest, wrap, signed_residue, residue, InKind}
 use Rattle.dc_convert.specs.Ranges.{Within, lies}
 use Rattle.dc_convert.specs.Levels.{widens, number_goes, Tests, goes, goes_at, fits, fits_at, type_of, level, IsPast, IsBelow}

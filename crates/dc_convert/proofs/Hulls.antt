@@ -2,7 +2,7 @@
 use Rattle.std.proofs.Common.{ℤ, ◌≤ℤ◌, Bool, true, false, cond}
 use Rattle.std.specs.Prelude.{int_lt}
 use Rattle.std.specs.Int.{int_min, int_max}
-use Rattle.dc_types.specs.declared.range.Range.{Range}
+use Rattle.dc_candidate.specs.declared.range.Range.{Range}
 use Rattle.dc_convert.specs.Ranges.{IsInside, hull}
 use Rattle.dc_convert.proofs.Sound.{least_of_two, most_of_two}
 

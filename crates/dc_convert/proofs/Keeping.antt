@@ -6,7 +6,7 @@ use Rattle.std.proofs.lemmas.Bool.Decides.{nat_tests}
 use Rattle.std.proofs.Math.Pow.{pow_mono}
 use Rattle.dc_types.specs.declared.kind.Kind.{Kind}
 use Rattle.dc_types.specs.declared.kind.Kind.TheVariants as kinds
-use Rattle.dc_types.specs.declared.range.Range.{Range}
+use Rattle.dc_candidate.specs.declared.range.Range.{Range}
 use Rattle.dc_types.specs.Integers.{bits_of, is_signed, least, greatest, wrap, InKind}
 use Rattle.dc_types.specs.declared.ty.Ty.{Ty}
 use Rattle.dc_types.specs.Exact.{ty-Decides}

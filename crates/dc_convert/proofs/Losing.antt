@@ -1,9 +1,9 @@
 -- A conversion of a number loses no value but in the cases that `Keeps` names, from enums and to enums too.
 use Rattle.std.proofs.Common.{◌≡◌, ◌∙◌, refl, sym, ap, subst, Bool, true, false, ◌||◌, List, Option, Some, None, ℤ, ◌⊎◌, inl, inr}
 use Rattle.dc_types.specs.declared.kind.Kind.{Kind}
-use Rattle.dc_types.specs.declared.range.Range.{Range}
-use Rattle.dc_types.specs.declared.range.Source.{Source, map-Source, out-Source, roll-out-Source}
-use Rattle.dc_types.specs.declared.range.Source.TheFolds.{fold-roll-Source}
+use Rattle.dc_candidate.specs.declared.range.Range.{Range}
+use Rattle.dc_candidate.specs.declared.range.Source.{Source, map-Source, out-Source, roll-out-Source}
+use Rattle.dc_candidate.specs.declared.range.Source.TheFolds.{fold-roll-Source}
 use Rattle.dc_types.specs.declared.ty.Ty.{Ty, map-Ty}
 use Rattle.dc_types.specs.declared.ty.Ty.TheViews.{out-Ty, roll-Ty, roll-out-Ty}
 use Rattle.dc_types.specs.declared.ty.Ty.TheOpen.{Ty-F}

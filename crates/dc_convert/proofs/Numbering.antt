@@ -3,7 +3,7 @@ use Rattle.std.proofs.Common.{◌≡◌, ◌∙◌, refl, sym, ap, ap₂, subst,
 use Rattle.std.specs.List.{slice_index_or, flat_map, Contains}
 use Rattle.std.proofs.lemmas.List.{map-append}
 use Rattle.std.proofs.Math.ListN.{get_or}
-use Rattle.dc_types.specs.declared.candidate.Candidate.{Candidate}
+use Rattle.dc_candidate.specs.declared.candidate.Candidate.{Candidate}
 use Rattle.dc_convert.specs.Best.{Numbered, of_set, of_sets, numbered, Numbers}
 
 -- the numbers go up by one from n

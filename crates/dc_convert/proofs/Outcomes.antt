@@ -3,8 +3,8 @@ use Rattle.std.proofs.Common.{◌≡◌, refl, ℕ, zero, suc, ◌==◌, ◌<◌
 use Rattle.std.specs.List.{All, Contains}
 use Rattle.std.proofs.lemmas.Bool.Decides.{nat_tests}
 use Rattle.std.proofs.lemmas.List.Elements.{All-nil, All-cons, All-head, All-tail, All-contains, All-contains_itself, All-weaker}
-use Rattle.dc_types.specs.declared.range.Source.{Source}
-use Rattle.dc_types.specs.declared.candidate.Candidate.{Candidate}
+use Rattle.dc_candidate.specs.declared.range.Source.{Source}
+use Rattle.dc_candidate.specs.declared.candidate.Candidate.{Candidate}
 use Rattle.dc_convert.specs.Best.{Numbered, numbered, level_of, goes_before, Beats, IsBest, HasBest, NoMatch, Ambiguous, OneHolds, OneOutcome}
 
 -- P holds or doesn't

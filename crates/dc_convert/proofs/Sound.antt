@@ -13,7 +13,7 @@ use Rattle.dc_types.specs.declared.kind.Kind.TheVariants as kinds
 use Rattle.dc_types.specs.declared.kind.BinOp.{BinOp}
 use Rattle.dc_types.specs.declared.kind.BinOp.TheVariants as binop
 use Rattle.dc_types.specs.declared.event.TrapKind.{TrapKind}
-use Rattle.dc_types.specs.declared.range.Range.{Range}
+use Rattle.dc_candidate.specs.declared.range.Range.{Range}
 use Rattle.dc_types.specs.Integers.{greatest, InKind, FitsRight, wrap, bits_of, binary, can_divide, can_shift, pattern}
 use Rattle.dc_types.proofs.Integers.{InKind-wrap, wrap_in_kind, residue_small}
 use Rattle.dc_types.proofs.Values.{InKind-binary}

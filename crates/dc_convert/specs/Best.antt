@@ -1,9 +1,9 @@
 -- Which candidate a call chooses (D specification, "Functions", "Function Overloading").
 use Rattle.std.specs.Prelude.{◌≡◌, ◌<◌, ◌+◌, ◌⊎◌, ◌↔◌, ℕ, suc, min, Bool, true, false, not, ◌&&◌, List, [], ◌∷◌, ◌++◌, length, map, unwrap_or, if◌then◌else◌}
 use Rattle.std.specs.List.{slice_get, slice_index_or, flat_map, All, Contains}
-use Rattle.dc_types.specs.declared.range.Source.{Source, out-Source}
-use Rattle.dc_types.specs.declared.candidate.CallParam.{CallParam}
-use Rattle.dc_types.specs.declared.candidate.Candidate.{Candidate}
+use Rattle.dc_candidate.specs.declared.range.Source.{Source, out-Source}
+use Rattle.dc_candidate.specs.declared.candidate.CallParam.{CallParam}
+use Rattle.dc_candidate.specs.declared.candidate.Candidate.{Candidate}
 use Rattle.dc_types.specs.Same as same
 use Rattle.dc_convert.specs.Levels.{type_of, level}
 

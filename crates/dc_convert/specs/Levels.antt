@@ -3,10 +3,10 @@ use Rattle.std.specs.Prelude.{◌≡◌, ◌⊎◌, ◌≤◌, ◌<ℤ◌, ℤ, 
 use Rattle.std.specs.List.{list_all}
 use Rattle.dc_types.specs.declared.kind.Kind.{Kind}
 use Rattle.dc_types.specs.declared.kind.Kind.TheVariants as kinds
-use Rattle.dc_types.specs.declared.range.Range.{Range}
-use Rattle.dc_types.specs.declared.range.Source.{Source, out-Source}
-use Rattle.dc_types.specs.declared.range.Source.TheOpen.{Source-F}
-use Rattle.dc_types.specs.declared.range.Source.TheFolds.{fold-Source}
+use Rattle.dc_candidate.specs.declared.range.Range.{Range}
+use Rattle.dc_candidate.specs.declared.range.Source.{Source, out-Source}
+use Rattle.dc_candidate.specs.declared.range.Source.TheOpen.{Source-F}
+use Rattle.dc_candidate.specs.declared.range.Source.TheFolds.{fold-Source}
 use Rattle.dc_types.specs.declared.ty.Ty.{Ty, map-Ty}
 use Rattle.dc_types.specs.declared.ty.Ty.TheVariants as ty
 use Rattle.dc_types.specs.declared.ty.Ty.TheViews.{out-Ty}

@@ -6,7 +6,7 @@ use Rattle.std.specs.Ordering.{int_eq}
 use Rattle.dc_types.specs.declared.kind.Kind.{Kind}
 use Rattle.dc_types.specs.declared.kind.BinOp.{BinOp}
 use Rattle.dc_types.specs.declared.kind.BinOp.TheVariants as binop
-use Rattle.dc_types.specs.declared.range.Range.{Range}
+use Rattle.dc_candidate.specs.declared.range.Range.{Range}
 use Rattle.dc_types.specs.Integers.{is_signed, least, greatest, can_shift}
 
 -- z lies in the range

@@ -1,7 +1,7 @@
 // Laws of the definitions.
 ghost use Rattle.std.specs.Prelude.{ℤ};
 ghost use Rattle.dc_types.specs.declared.kind.Kind.{Kind};
-ghost use Rattle.dc_types.specs.declared.range.Range.{Range};
+ghost use Rattle.dc_candidate.specs.declared.range.Range.{Range};
 ghost use Rattle.dc_types.specs.Integers.{wrap};
 ghost use Rattle.dc_convert.specs.Ranges.{Within, fitted};
 ghost use Rattle.dc_convert.specs.CommonKinds.{InAnyOrder};

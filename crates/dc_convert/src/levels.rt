@@ -5,12 +5,13 @@ ghost use Rattle.dc_convert.specs.Levels.{widens, number_goes, Keeps, goes, lite
 ghost use Rattle.dc_convert.specs.CommonKinds.{kind_of};
 ghost use Rattle.dc_types.specs.declared.kind.Kind.{Kind};
 ghost use Rattle.dc_types.specs.declared.ty.Ty.TheViews.{out-Ty};
-ghost use Rattle.dc_types.specs.declared.range.Source.{out-Source};
+ghost use Rattle.dc_candidate.specs.declared.range.Source.{out-Source};
 ghost use Rattle.dc_types.specs.Integers.{InKind};
 ghost use Rattle.dc_convert.specs.Ranges.{Within};
 
 use crate::ranges::{bits_of, lies};
-use dc_types::{Kind, Level, Range, Source, Ty, same_ty};
+use dc_candidate::{Level, Range, Source};
+use dc_types::{Kind, Ty, same_ty};
 
 /// Whether a kind goes to one that is at least as wide and isn't `bool`.
 #[tactic(auto, unfolding(crate::specs::Levels::widens))]

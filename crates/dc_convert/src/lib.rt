@@ -6,8 +6,6 @@ mod laws;
 mod levels;
 mod numbers;
 mod ranges;
-#[cfg(test)]
-mod tests;
 
 pub use laws::{choice_laws, common_law, conversion_law, loss_law, outcome_laws};
 pub use levels::{converts, number_goes};

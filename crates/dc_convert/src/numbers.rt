@@ -6,10 +6,11 @@ ghost use Rattle.dc_convert.specs.CommonKinds.{promoted, common_promoted, common
 ghost use Rattle.dc_convert.specs.Levels.{type_of};
 
 use crate::ranges::{bits_of, is_signed};
-use dc_types::{BinOp, Kind, Source, Ty, same_ty};
+use dc_candidate::Source;
+use dc_types::{BinOp, Kind, Ty, same_ty};
 
 /// The type that two operands have together.
-#[derive(Clone, Copy, Debug, PartialEq, Eq)]
+#[derive(Clone, Copy)]
 pub enum Joint {
     /// That of each, which is one.
     Same,

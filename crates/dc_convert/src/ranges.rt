@@ -1,10 +1,11 @@
 // The ranges of operations.
 ghost use Rattle.std.specs.Prelude.{◌≡◌, ◌≤◌, ℤ, pos};
-ghost use Rattle.dc_types.specs.declared.range.Range.{Range};
+ghost use Rattle.dc_candidate.specs.declared.range.Range.{Range};
 ghost use Rattle.dc_types.specs.Integers.{is_signed, bits_of, InKind, FitsRight, binary};
 ghost use Rattle.dc_convert.specs.Ranges.{IsRange, IsWide, Within, IsInside, hull, whole, lies, fitted, spanned, above_zero, from_zero, has_quotient, product, quotient, remainder, conjunction, disjunction, ones, shifted, range_of};
 
-use dc_types::{BinOp, Kind, Range};
+use dc_candidate::Range;
+use dc_types::{BinOp, Kind};
 
 /// All numbers of a kind.
 #[tactic(auto, unfolding(crate::specs::Ranges::whole, dc_types::specs::Integers::least, dc_types::specs::Integers::greatest))]

@@ -9,7 +9,7 @@ use std::alloc::Global;
 use thiserror::Error;
 
 /// Why a file's bytes aren't there.
-#[derive(Clone, Copy, Debug, PartialEq, Eq, Error)]
+#[derive(Clone, Copy, Debug, Error)]
 pub enum LibFault {
     #[error("the read failed")]
     Failed,

@@ -6,7 +6,7 @@ use dc_types::{Event, NoMemory, Text};
 use std::alloc::Global;
 
 /// Which words of the command ask for a probe.
-#[derive(Clone, Copy, Debug, PartialEq, Eq)]
+#[derive(Clone, Copy)]
 pub enum ProbeKind {
     Cover,
     Profile,
@@ -15,7 +15,7 @@ pub enum ProbeKind {
 }
 
 /// What a probe wants after an event.
-#[derive(Clone, Copy, Debug, PartialEq, Eq)]
+#[derive(Clone, Copy)]
 pub enum Wish {
     More,
     Enough,

@@ -7,7 +7,7 @@ ghost use Rattle.dc_edge.specs.Sink.{Takes};
 use thiserror::Error;
 
 /// Why a piece wasn't taken whole.
-#[derive(Clone, Copy, Debug, PartialEq, Eq, Error)]
+#[derive(Clone, Copy, Debug, Error)]
 pub enum SinkFault {
     #[error("the write failed")]
     Failed,

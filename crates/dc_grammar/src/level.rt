@@ -1,5 +1,5 @@
 /// Where an expression stands: which operators it may have outside of brackets.
-#[derive(Clone, Copy, Debug)]
+#[derive(Clone, Copy)]
 pub enum Level {
     /// Any.
     Whole,

@@ -28,7 +28,7 @@ fn is_outside(kind: TokenKind) -> bool
 }
 
 /// What a token does to the levels of a text.
-#[derive(Clone, Copy, Debug)]
+#[derive(Clone, Copy)]
 pub enum Effect {
     /// It begins a level.
     Open,

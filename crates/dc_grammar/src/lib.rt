@@ -12,8 +12,6 @@ mod reading;
 mod sign;
 mod step;
 mod terminal;
-#[cfg(test)]
-mod tests;
 
 pub use attribute::{
     AT_WORDS, at_word, at_word_sign, attribute_word, attribute_word_sign, storage, storage_sign,

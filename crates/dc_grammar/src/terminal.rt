@@ -5,7 +5,7 @@ ghost use Rattle.dc_grammar.specs.Terminals as terminals;
 use dc_token::{Token, TokenKind};
 
 /// What a token is to the grammar: a kind of name or literal, a keyword or a sign.
-#[derive(Clone, Copy, Debug, PartialEq, Eq)]
+#[derive(Clone, Copy)]
 pub enum Terminal {
     Name,
     Integer,

@@ -3,7 +3,7 @@ ghost use Rattle.std.specs.Prelude.{◌≡◌};
 ghost use Rattle.dc_lexer.specs.Leads as leads;
 
 /// What the first byte of an item can begin.
-#[derive(Clone, Copy, Debug, PartialEq, Eq)]
+#[derive(Clone, Copy)]
 pub(crate) enum Lead {
     Blank,
     /// A letter, `_` or a byte of a longer character: a name, or a string with a letter before its quote or brace.

@@ -11,8 +11,6 @@ mod set;
 mod sign;
 mod spaces;
 mod string;
-#[cfg(test)]
-mod tests;
 mod token_string;
 
 pub use name::is_name;

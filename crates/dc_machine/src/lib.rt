@@ -18,6 +18,3 @@ mod words;
 pub use machine::Machine;
 pub use report::{RunEnd, RunReport};
 pub use simple::is_simple_code;
-
-#[cfg(test)]
-mod tests;

@@ -2,7 +2,7 @@
 use dc_types::{Text, Trap};
 
 /// How a run ended.
-#[derive(Debug, Drop)]
+#[derive(Drop)]
 pub enum RunEnd {
     /// With a value, whose first word as a `long` this is, or 0 where it has none.
     Value(i64),
@@ -15,7 +15,7 @@ pub enum RunEnd {
 }
 
 /// How a run ended, and the lines of the probes that were dropped.
-#[derive(Debug, Drop)]
+#[derive(Drop)]
 pub struct RunReport {
     pub end: RunEnd,
     pub lines: Text,

@@ -20,7 +20,7 @@ pub struct State {
 }
 
 /// Why a run stops.
-#[derive(Clone, Copy, Debug, PartialEq, Eq)]
+#[derive(Clone, Copy)]
 pub enum Stop {
     /// So many words, from a slot on, are the result.
     Returned(u32, u32),
@@ -29,7 +29,7 @@ pub enum Stop {
 }
 
 /// What an instruction leads to.
-#[derive(Clone, Copy, Debug, PartialEq, Eq)]
+#[derive(Clone, Copy)]
 pub enum Next {
     /// The next instruction.
     Goes,
@@ -47,14 +47,14 @@ pub enum Next {
 }
 
 /// Why and at which instruction a run stops.
-#[derive(Clone, Copy, Debug, PartialEq, Eq)]
+#[derive(Clone, Copy)]
 pub struct Halt {
     pub pc: usize,
     pub stop: Stop,
 }
 
 /// Why a run breaks off.
-#[derive(Clone, Copy, Debug, PartialEq, Eq)]
+#[derive(Clone, Copy)]
 pub enum Fault {
     NoMemory,
     Failed,

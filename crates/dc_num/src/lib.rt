@@ -3,8 +3,6 @@
 
 mod operators;
 mod reduce;
-#[cfg(test)]
-mod tests;
 mod text;
 
 pub use operators::{binary, compare, unary};

@@ -12,7 +12,5 @@ mod parts;
 mod simple;
 mod single;
 mod statements;
-#[cfg(test)]
-mod tests;
 
 pub use parse::{parse_declarations, parse_module, parse_statements};

@@ -9,8 +9,6 @@ mod reading;
 mod rules;
 mod single;
 mod suffixes;
-#[cfg(test)]
-mod tests;
 mod tree;
 mod types;
 

@@ -85,7 +85,7 @@ fn is_scalar(n: u32) -> bool
 }
 
 /// An escape behind its backslash.
-#[derive(Clone, Copy, Debug)]
+#[derive(Clone, Copy)]
 pub(crate) struct Escape {
     /// Its length, the backslash counted; 0 where it is none.
     pub(crate) len: usize,

@@ -1,7 +1,7 @@
 // The kinds of items that a text consists of.
 
 /// A kind of item: white space, a comment or a form of token (D specification, "Lexical", "Tokens").
-#[derive(Clone, Copy, Debug, PartialEq, Eq)]
+#[derive(Clone, Copy)]
 pub enum Item {
     /// Spaces, tabs and line ends.
     Blank,

@@ -8,8 +8,6 @@ mod kind;
 mod literal;
 mod literal_types;
 mod spelling;
-#[cfg(test)]
-mod tests;
 mod token;
 mod tokens;
 mod vocabulary;

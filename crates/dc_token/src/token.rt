@@ -2,7 +2,7 @@
 use crate::Spelling;
 
 /// What a token is. The parser tells words and signs of one kind apart by their spelling.
-#[derive(Clone, Copy, Debug, PartialEq, Eq)]
+#[derive(Clone, Copy)]
 pub enum TokenKind {
     /// A name.
     Id,
@@ -21,7 +21,7 @@ pub enum TokenKind {
 }
 
 /// A token of a text.
-#[derive(Debug, Drop)]
+#[derive(Drop)]
 pub struct Token {
     pub kind: TokenKind,
     /// The bytes of the text from `start` up to `end`.

@@ -6,7 +6,7 @@ use std::alloc::{AllocFailed, Global};
 use std::marker::Model;
 
 /// The tokens of a text in its order, which contracts see as a list.
-#[derive(Debug, Drop)]
+#[derive(Drop)]
 pub struct Tokens {
     tokens: Vec<Token>,
 }

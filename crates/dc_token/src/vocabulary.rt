@@ -1,7 +1,7 @@
 // Characters and words (D specification, "Lexical", "Identifiers" and "Keywords").
 
 /// What a character does in an identifier. The classes of letters are those of Unicode's XID.
-#[derive(Clone, Copy, Debug, PartialEq, Eq)]
+#[derive(Clone, Copy)]
 pub enum Class {
     /// It begins an identifier, as a letter and `_` do.
     Start,
@@ -11,7 +11,7 @@ pub enum Class {
 }
 
 /// What a word of the form of an identifier is.
-#[derive(Clone, Copy, Debug, PartialEq, Eq)]
+#[derive(Clone, Copy)]
 pub enum Word {
     /// A keyword that this compiler reads.
     Used,

@@ -7,7 +7,7 @@ use Rattle.dc_types.specs.declared.place.Place.{Place}
 use Rattle.dc_types.specs.declared.ty.Ty.{Ty}
 use Rattle.dc_types.specs.declared.ty.Ty.TheOpen.{Ty-F}
 use Rattle.dc_types.specs.declared.ty.Ty.TheViews.{out-Ty}
-use Rattle.dc_types.specs.declared.value.Value.{Value}
+use Rattle.dc_value.specs.declared.value.Value.{Value}
 use Rattle.dc_types.specs.declared.event.Trap.{Trap}
 use Rattle.dc_types.specs.declared.event.TrapKind.{TrapKind}
 use Rattle.dc_types.specs.declared.event.Event.{Event}
@@ -24,15 +24,15 @@ use Rattle.dc_code.specs.declared.code.Draft.{Draft}
 use Rattle.dc_code.specs.declared.run.Block.{Block}
 use Rattle.dc_code.proofs.Once.{runs_once}
 use Rattle.dc_edge.specs.Sink.{AppendsFront}
-use Rattle.dc_lower_expr.specs.Frames.{words_at}
-use Rattle.dc_lower.specs.Runs.{Runs, machine_end}
+use Rattle.core_lower_expr.specs.Frames.{words_at}
+use Rattle.core_lower.specs.Runs.{Runs, machine_end}
 use Rattle.dc_machine.specs.Runs.{EndsSo, RanTo, first_of}
 use Rattle.dc_machine.specs.Program.{Program as Opened}
 use Rattle.dc_machine.specs.declared.report.RunEnd.{RunEnd}
 use Rattle.dc_machine.specs.declared.report.RunEnd.TheVariants as end
-use Rattle.dc_tree.specs.Values.{number_in}
-use Rattle.dc_tree.specs.Nodes.{own_type}
-use Rattle.dc_tree.specs.Meaning as meaning
+use Rattle.core_tree.specs.Values.{number_in}
+use Rattle.core_tree.specs.Nodes.{own_type}
+use Rattle.core_tree.specs.Meaning as meaning
 use Rattle.dc_top.specs.declared.program.Program.{Program}
 use Rattle.dc_top.specs.declared.program.Ending.{Ending}
 use Rattle.dc_top.specs.declared.program.Ending.TheVariants as ending

@@ -7,7 +7,7 @@ use Rattle.dc_token.specs.Text.{Laid, StandsAt, mark_len}
 use Rattle.dc_token.specs.Text as x
 use Rattle.dc_lexer.proofs.Laying.{laid}
 use Rattle.dc_lexer.proofs.Placed.{next_some}
-use Rattle.dc_front.specs.Front.{spelling_at}
+use Rattle.core_front.specs.Front.{spelling_at}
 use Rattle.dc_top.specs.Spellings.{SpellsEach}
 
 -- a token takes at least a byte

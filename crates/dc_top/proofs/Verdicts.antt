@@ -5,9 +5,9 @@ use Rattle.dc_types.specs.declared.refusal.Fail.{Fail}
 use Rattle.dc_types.specs.declared.refusal.Fail.TheVariants as fail
 use Rattle.dc_token.specs.declared.token.Token.{Token}
 use Rattle.dc_ast.specs.declared.declaration.ModuleTree.{ModuleTree}
-use Rattle.dc_front.specs.Front.{judged_of}
-use Rattle.dc_front.specs.Judging.{Answers, Judged}
-use Rattle.dc_front.specs.declared.judged.Resolution.{Resolution}
+use Rattle.core_front.specs.Front.{judged_of}
+use Rattle.core_front.specs.Judging.{Answers, Judged}
+use Rattle.core_front.specs.declared.judged.Resolution.{Resolution}
 use Rattle.dc_top.specs.Front.{IsProgramOf, IsRefusedBy, in_text, in_module, FrontAnswers, OneVerdict, IsSettled, accepted, rejected, as_program}
 use Rattle.dc_top.specs.Names.{default_name}
 use Rattle.dc_top.specs.Texts.{Verdict, HasText, IsFailOf, refused, module_of}

@@ -5,8 +5,8 @@ use Rattle.dc_types.specs.declared.refusal.Fail.{Fail}
 use Rattle.dc_types.specs.declared.refusal.Fail.TheVariants as fail
 use Rattle.dc_token.specs.declared.token.Token.{Token}
 use Rattle.dc_ast.specs.declared.declaration.ModuleTree.{ModuleTree}
-use Rattle.dc_front.specs.Front.{judged_of}
-use Rattle.dc_front.specs.declared.judged.Resolution.{Resolution}
+use Rattle.core_front.specs.Front.{judged_of}
+use Rattle.core_front.specs.declared.judged.Resolution.{Resolution}
 use Rattle.dc_top.specs.Names.{default_name}
 use Rattle.dc_top.specs.Texts.{HasText, refused, module_of}
 use Rattle.dc_top.specs.declared.program.Program.{Program}

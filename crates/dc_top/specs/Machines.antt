@@ -4,7 +4,7 @@ use Rattle.dc_types.specs.declared.event.Limits.{Limits}
 use Rattle.dc_code.specs.declared.code.Draft.{Draft}
 use Rattle.dc_edge.specs.declared.sink.SinkFault.{SinkFault}
 use Rattle.dc_edge.specs.declared.sink.SinkFault.TheVariants as sink
-use Rattle.dc_lower.specs.Runs.{Runs}
+use Rattle.core_lower.specs.Runs.{Runs}
 use Rattle.dc_machine.specs.Program as machine
 use Rattle.dc_machine.specs.declared.report.RunEnd.{RunEnd}
 use Rattle.dc_machine.specs.declared.report.RunEnd.TheVariants as run

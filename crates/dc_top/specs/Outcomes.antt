@@ -5,7 +5,7 @@ use Rattle.dc_types.specs.declared.kind.Kind.TheVariants as kind
 use Rattle.dc_types.specs.declared.ty.Ty.{Ty}
 use Rattle.dc_types.specs.declared.ty.Ty.TheOpen.{Ty-F}
 use Rattle.dc_types.specs.declared.ty.Ty.TheViews.{out-Ty}
-use Rattle.dc_types.specs.declared.value.Value.{Value}
+use Rattle.dc_value.specs.declared.value.Value.{Value}
 use Rattle.dc_types.specs.declared.event.Event.{Event}
 use Rattle.dc_types.specs.declared.event.Event.TheVariants.{Print}
 use Rattle.dc_types.specs.declared.event.Limits.{Limits}
@@ -15,10 +15,10 @@ use Rattle.dc_edge.specs.Sink.{AppendsFront}
 use Rattle.dc_edge.specs.declared.sink.SinkFault.{SinkFault}
 use Rattle.dc_edge.specs.declared.sink.SinkFault.TheVariants as sink
 use Rattle.dc_machine.specs.Runs.{TakesFrontAfter}
-use Rattle.dc_tree.specs.Values.{number_in}
-use Rattle.dc_tree.specs.Nodes.{own_type}
-use Rattle.dc_tree.specs.Typed.{AreTyped}
-use Rattle.dc_tree.specs.Meaning as meaning
+use Rattle.core_tree.specs.Values.{number_in}
+use Rattle.core_tree.specs.Nodes.{own_type}
+use Rattle.core_tree.specs.Typed.{AreTyped}
+use Rattle.core_tree.specs.Meaning as meaning
 use Rattle.dc_top.specs.declared.program.Program.{Program}
 use Rattle.dc_top.specs.declared.program.Ending.{Ending}
 use Rattle.dc_top.specs.declared.program.Ending.TheVariants as ending

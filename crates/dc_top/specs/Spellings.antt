@@ -4,7 +4,7 @@ use Rattle.std.specs.List.{Contains}
 use Rattle.dc_token.specs.declared.token.Token.{Token}
 use Rattle.dc_token.specs.Balance.{Bytes}
 use Rattle.dc_token.specs.Text.{IsTokens}
-use Rattle.dc_front.specs.Front.{spelling_at}
+use Rattle.core_front.specs.Front.{spelling_at}
 
 -- At the offset of a token of a text it is that token's spelling, and the text goes on with it there.
 pub record StandsThere (text : Bytes) (tokens : List Token) (token : Token) : Type 0 where

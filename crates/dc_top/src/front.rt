@@ -6,7 +6,7 @@ ghost use Rattle.dc_top.specs.Front.{FrontAnswers};
 use crate::names::default_name;
 use crate::program::Program;
 use crate::text::parse_text;
-use dc_front::{Resolution, judge};
+use core_front::{Resolution, judge};
 use dc_types::{Fail, Text};
 use std::alloc::Global;
 

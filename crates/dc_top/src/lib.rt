@@ -11,8 +11,6 @@ mod program;
 mod report;
 mod run;
 mod text;
-#[cfg(test)]
-mod text_tests;
 mod told;
 mod top;
 mod words;

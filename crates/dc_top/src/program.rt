@@ -1,16 +1,16 @@
 // Programs that can be run, and how their runs end.
-use dc_tree::{Bodies, Tree};
+use core_tree::{Bodies, Tree};
 use dc_types::{Text, Trap};
 
 /// Functions with their bodies, and the expression with which a run begins, which is the call of `main`.
-#[derive(Debug, Drop)]
+#[derive(Drop)]
 pub struct Program {
     pub bodies: Bodies,
     pub start: Tree,
 }
 
 /// A program that is to be run.
-#[derive(Debug, Drop)]
+#[derive(Drop)]
 pub struct Run {
     pub program: Program,
     /// The text that the offsets of the program's places count in.
@@ -20,7 +20,7 @@ pub struct Run {
 }
 
 /// How the run of a program ended.
-#[derive(Debug, Drop)]
+#[derive(Drop)]
 pub enum Ending {
     /// With the number that `main` gave, or with 0 where it gives nothing.
     Number(i64),

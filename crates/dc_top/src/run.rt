@@ -6,8 +6,8 @@ ghost use Rattle.dc_top.specs.Outcomes.{IsTypedProgram, limits_of, RanSo};
 ghost use Rattle.dc_top.specs.Machines.{Holds, ending_from};
 
 use crate::program::{Ending, Program};
+use core_lower::lower_bodies;
 use dc_edge::{Sink, SinkFault};
-use dc_lower::lower_bodies;
 use dc_machine::{Machine, RunEnd};
 use dc_types::{Items, Limits, NoMemory};
 use std::alloc::Global;

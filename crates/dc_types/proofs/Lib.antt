@@ -1,16 +1,4 @@
 pub mod Integers
 pub mod Values
-pub mod Counting
-pub mod Settling
-pub mod Copying
-pub mod Starting
-pub mod Joining
-pub mod Turning
-pub mod Digits
-pub mod Depths
-pub mod Skipping
-pub mod Reading
 pub mod Ticks
-pub mod Bare
 pub mod Ordering
-pub mod Showing

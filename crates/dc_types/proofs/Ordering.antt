@@ -1,4 +1,4 @@
--- The orders of places and of questions.
+-- The order of places.
 use Rattle.std.proofs.Common.{◌≡◌, ◌∙◌, refl, sym, ap, ℕ, List, [], ◌∷◌, ◌++◌}
 use Rattle.std.specs.Ordering.{nat_cmp, ordering_then, ordering_reverse}
 use Rattle.std.specs.Cmp.Lexicographic.{slice_cmp}
@@ -8,7 +8,7 @@ use Rattle.std.specs.declared.cmp.Ordering.TheVariants.{Less, Equal, Greater}
 use Rattle.dc_types.specs.declared.place.Step.{Step}
 use Rattle.dc_types.specs.declared.place.Step.TheVariants as steps
 use Rattle.dc_types.specs.declared.place.Place.{Place}
-use Rattle.dc_types.specs.Ordered.{by_step, by_place, PlaceOrder, QuestionOrder}
+use Rattle.dc_types.specs.Ordered.{by_step, by_place, PlaceOrder}
 
 -- what is the reverse of itself
 only_equal : (o : Ordering) → o ≡ ordering_reverse o → o ≡ Equal
@@ -31,14 +31,4 @@ place_order = record {
   before_inside = λ p s more.
       ap (λ o. ordering_then o (slice_cmp by_step p.steps (p.steps ++ s ∷ more))) (only_equal (slice_cmp nat_cmp p.module p.module) (nat_list_cmp_total.antisymm p.module p.module))
       ∙ prefix_first p.steps s more;
-}
-
-pub question_order : QuestionOrder
-question_order = record {
-  by_place_and_asked = λ p q. refl;
-  symbol_first = refl;
-  layout_next = refl;
-  signature_next = refl;
-  body_next = refl;
-  settle_last = refl;
 }

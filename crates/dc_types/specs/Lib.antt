@@ -2,11 +2,5 @@ pub mod Integers
 pub mod Events
 pub mod Same
 pub mod Exact
-pub mod Cells
-pub mod Starts
-pub mod KeyTexts
-pub mod KeyReading
 pub mod Equal
 pub mod Ordered
-pub mod Told
-pub mod Shown

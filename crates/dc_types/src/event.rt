@@ -1,11 +1,8 @@
 // What happens in a run, and what ends it.
-ghost use Rattle.std.specs.Prelude.{◌≡◌, IfOk};
-
-use crate::{Items, Place, Places, Text, copy_place, copy_places};
-use std::alloc::{AllocError, Global};
+use crate::{Items, Place, Places, Text};
 
 /// What stops a program at an operation that has no result.
-#[derive(Clone, Copy, Debug, PartialEq, Eq, PartialOrd, Ord)]
+#[derive(Clone, Copy)]
 pub enum TrapKind {
     Divide,
     Shift,
@@ -18,24 +15,14 @@ pub enum TrapKind {
 }
 
 /// A trap, at the operation that met it.
-#[derive(Debug, Drop, PartialEq, Eq)]
+#[derive(Drop)]
 pub struct Trap {
     pub kind: TrapKind,
     pub place: Place,
 }
 
-/// A copy that is equal.
-pub fn copy_trap(alloc: Global, trap: &Trap) -> Result<Trap, AllocError>
-    ensures { IfOk result (λ copy. copy ≡ trap.now) }
-{
-    Ok(Trap {
-        kind: trap.kind,
-        place: copy_place(alloc, &trap.place)?,
-    })
-}
-
 /// One thing that a run does.
-#[derive(Debug, Drop, PartialEq, Eq)]
+#[derive(Drop)]
 pub enum Event {
     /// A function is entered. It takes one tick.
     Enter(Place),
@@ -45,19 +32,8 @@ pub enum Event {
     Print(Text),
 }
 
-/// A copy that is equal.
-pub fn copy_event(alloc: Global, event: &Event) -> Result<Event, AllocError>
-    ensures { IfOk result (λ copy. copy ≡ event.now) }
-{
-    match event {
-        Event::Enter(place) => Ok(Event::Enter(copy_place(alloc, place)?)),
-        Event::Turn(place) => Ok(Event::Turn(copy_place(alloc, place)?)),
-        Event::Print(text) => Ok(Event::Print(Text::copy_of(alloc, text.as_slice())?)),
-    }
-}
-
 /// How far a run may go.
-#[derive(Clone, Copy, Debug, PartialEq, Eq)]
+#[derive(Clone, Copy)]
 pub struct Limits {
     /// The most function entries and loop turns together.
     pub ticks: u64,
@@ -70,59 +46,18 @@ pub struct Limits {
 }
 
 /// How often a function was called.
-#[derive(Debug, Drop, PartialEq, Eq)]
+#[derive(Drop)]
 pub struct CallCount {
     pub place: Place,
     pub number: u64,
 }
 
 /// What a probe has been told so far.
-#[derive(Debug, Drop, PartialEq, Eq)]
+#[derive(Drop)]
 pub enum ProbeState {
     /// The functions that were entered and the loops that were turned, each once.
     Covered { entered: Places, turned: Places },
     Called(Items<CallCount>),
     /// The functions that were entered first, up to a limit.
     First { limit: u32, places: Places },
-}
-
-/// A copy that is equal.
-pub fn copy_call_count(alloc: Global, count: &CallCount) -> Result<CallCount, AllocError>
-    ensures { IfOk result (λ copy. copy ≡ count.now) }
-{
-    Ok(CallCount {
-        place: copy_place(alloc, &count.place)?,
-        number: count.number,
-    })
-}
-
-/// A copy that is equal.
-pub fn copy_call_counts(
-    alloc: Global,
-    counts: &Items<CallCount>,
-) -> Result<Items<CallCount>, AllocError>
-    ensures { IfOk result (λ copy. copy ≡ counts.now) }
-{
-    let mut copy = Items::new(alloc);
-    for count in counts.as_slice() {
-        copy.push(copy_call_count(alloc, count)?)?;
-    }
-    Ok(copy)
-}
-
-/// A copy that is equal.
-pub fn copy_probe_state(alloc: Global, state: &ProbeState) -> Result<ProbeState, AllocError>
-    ensures { IfOk result (λ copy. copy ≡ state.now) }
-{
-    match state {
-        ProbeState::Covered { entered, turned } => Ok(ProbeState::Covered {
-            entered: copy_places(alloc, entered)?,
-            turned: copy_places(alloc, turned)?,
-        }),
-        ProbeState::Called(counts) => Ok(ProbeState::Called(copy_call_counts(alloc, counts)?)),
-        ProbeState::First { limit, places } => Ok(ProbeState::First {
-            limit: *limit,
-            places: copy_places(alloc, places)?,
-        }),
-    }
 }

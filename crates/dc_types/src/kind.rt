@@ -1,7 +1,7 @@
 // The kinds of numbers, and the operators on them.
 
 /// A kind of number, named after its width and sign (D specification, "Types", "Basic Data Types").
-#[derive(Clone, Copy, Debug, PartialEq, Eq, PartialOrd, Ord)]
+#[derive(Clone, Copy, PartialEq, Eq)]
 pub enum Kind {
     /// `bool`: 0 or 1, in 8 bits.
     Bool,
@@ -26,7 +26,7 @@ pub enum Kind {
 }
 
 /// An operator on two numbers of one kind (D specification, "Expressions").
-#[derive(Clone, Copy, Debug, PartialEq, Eq, PartialOrd, Ord)]
+#[derive(Clone, Copy)]
 pub enum BinOp {
     Add,
     Sub,
@@ -44,7 +44,7 @@ pub enum BinOp {
 }
 
 /// An operator on one number.
-#[derive(Clone, Copy, Debug, PartialEq, Eq, PartialOrd, Ord)]
+#[derive(Clone, Copy)]
 pub enum UnOp {
     /// `-`
     Negate,
@@ -55,7 +55,7 @@ pub enum UnOp {
 }
 
 /// A comparison of two numbers.
-#[derive(Clone, Copy, Debug, PartialEq, Eq, PartialOrd, Ord)]
+#[derive(Clone, Copy)]
 pub enum CmpOp {
     Equal,
     Differs,

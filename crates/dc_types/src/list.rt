@@ -6,7 +6,7 @@ use std::cmp::Ordering;
 use std::marker::Model;
 
 /// A list of items, which contracts see as such. It is the type of every list in the public data.
-#[derive(Debug, Drop)]
+#[derive(Drop)]
 pub struct Items<T> {
     items: Vec<T>,
 }

@@ -1,11 +1,11 @@
 // Where something stands.
 ghost use Rattle.std.specs.Prelude.{◌≡◌, IfOk};
 
-use crate::{Items, Places, Steps, Text};
+use crate::{Items, Steps, Text};
 use std::alloc::{AllocError, Global};
 
 /// One step of a place, from the file inwards.
-#[derive(Debug, Drop, PartialEq, Eq, PartialOrd, Ord)]
+#[derive(Drop, PartialEq, Eq, PartialOrd, Ord)]
 pub enum Step {
     /// At an offset in bytes: in the file, or in the text of the mixin at the place before it.
     At(u32),
@@ -17,7 +17,7 @@ pub enum Step {
 
 /// Where something stands in a program. Places have an order: by the module's name, then step by step,
 /// where a place comes before those inside it.
-#[derive(Debug, Drop, PartialEq, Eq, PartialOrd, Ord)]
+#[derive(Drop, PartialEq, Eq, PartialOrd, Ord)]
 pub struct Place {
     /// The name of the module, as `a.b`, or nothing where the whole program is meant.
     pub module: Text,
@@ -54,15 +54,4 @@ pub fn copy_place(alloc: Global, place: &Place) -> Result<Place, AllocError>
         module: Text::copy_of(alloc, place.module.as_slice())?,
         steps: copy_steps(alloc, &place.steps)?,
     })
-}
-
-/// A copy that is equal.
-pub fn copy_places(alloc: Global, places: &Places) -> Result<Places, AllocError>
-    ensures { IfOk result (λ copy. copy ≡ places.now) }
-{
-    let mut copy = Items::new(alloc);
-    for place in places.as_slice() {
-        copy.push(copy_place(alloc, place)?)?;
-    }
-    Ok(copy)
 }

@@ -1,11 +1,9 @@
 // Why a program is refused.
-ghost use Rattle.std.specs.Prelude.{◌≡◌, IfOk};
-
-use crate::{NoMemory, Place, Text, copy_place};
-use std::alloc::{AllocError, AllocFailed, Global};
+use crate::{NoMemory, Place, Text};
+use std::alloc::{AllocError, AllocFailed};
 
 /// A rule that a program breaks, and where.
-#[derive(Debug, Drop, PartialEq, Eq)]
+#[derive(Drop)]
 pub struct Refusal {
     /// The number of the rule, from 1 to 25.
     pub rule: u8,
@@ -14,32 +12,11 @@ pub struct Refusal {
     pub detail: Text,
 }
 
-/// A copy that is equal.
-pub fn copy_refusal(alloc: Global, refusal: &Refusal) -> Result<Refusal, AllocError>
-    ensures { IfOk result (λ copy. copy ≡ refusal.now) }
-{
-    Ok(Refusal {
-        rule: refusal.rule,
-        place: copy_place(alloc, &refusal.place)?,
-        detail: Text::copy_of(alloc, refusal.detail.as_slice())?,
-    })
-}
-
 /// Why a text has no tokens, no tree or no program.
-#[derive(Debug, Drop, PartialEq, Eq)]
+#[derive(Drop)]
 pub enum Fail {
     Refused(Refusal),
     NoMemory,
-}
-
-/// A copy that is equal.
-pub fn copy_fail(alloc: Global, fail: &Fail) -> Result<Fail, AllocError>
-    ensures { IfOk result (λ copy. copy ≡ fail.now) }
-{
-    match fail {
-        Fail::Refused(refusal) => Ok(Fail::Refused(copy_refusal(alloc, refusal)?)),
-        Fail::NoMemory => Ok(Fail::NoMemory),
-    }
 }
 
 impl From<AllocError> for Fail {

@@ -2,7 +2,7 @@
 use std::alloc::{AllocError, AllocFailed};
 
 /// How a command ended. The program's exit status is a number of its own for each.
-#[derive(Clone, Copy, Debug, PartialEq, Eq)]
+#[derive(Clone, Copy)]
 pub enum Status {
     /// The command did all that it was to do.
     Done,
@@ -24,7 +24,7 @@ pub enum Status {
 }
 
 /// Memory was wanted and refused.
-#[derive(Clone, Copy, Debug, PartialEq, Eq)]
+#[derive(Clone, Copy)]
 pub struct NoMemory;
 
 impl From<AllocError> for NoMemory {

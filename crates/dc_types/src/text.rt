@@ -1,13 +1,12 @@
 // A text is a list of bytes.
 ghost use Rattle.std.specs.Prelude.{◌≡◌, [], ◌∷◌, ◌++◌, ◌<◌, length, IfOk, OnOk, OnErr};
 
-use crate::{Items, Names};
 use std::alloc::{AllocError, AllocFailed, Global};
 use std::cmp::Ordering;
 use std::marker::Model;
 
 /// A list of bytes, which contracts see as such. It is mostly UTF-8, but need not be.
-#[derive(Debug, Drop)]
+#[derive(Drop)]
 pub struct Text {
     bytes: Vec<u8>,
 }
@@ -126,15 +125,4 @@ impl Ord for Text {
     fn cmp(&self, other: &Text) -> Ordering {
         self.bytes.as_slice().cmp(other.bytes.as_slice())
     }
-}
-
-/// A copy that is equal.
-pub fn copy_names(alloc: Global, names: &Names) -> Result<Names, AllocError>
-    ensures { IfOk result (λ copy. copy ≡ names.now) }
-{
-    let mut copy = Items::new(alloc);
-    for name in names.as_slice() {
-        copy.push(Text::copy_of(alloc, name.as_slice())?)?;
-    }
-    Ok(copy)
 }

@@ -7,7 +7,7 @@ use sqlite_items::Boxed;
 use std::alloc::{AllocError, Global};
 
 /// A type of a program (D specification, "Types").
-#[derive(Debug, Drop)]
+#[derive(Drop)]
 pub enum Ty {
     /// `void`
     Void,
@@ -89,15 +89,4 @@ impl Eq for Ty {
     ghost use Rattle.dc_types.specs.Exact.{ty_laws};
 
     ghost laws = { ty_laws };
-}
-
-/// A copy that is equal.
-pub fn copy_types(alloc: Global, types: &Types) -> Result<Types, AllocError>
-    ensures { IfOk result (λ copy. copy ≡ types.now) }
-{
-    let mut copy = Items::new(alloc);
-    for ty in types.as_slice() {
-        copy.push(copy_ty(alloc, ty)?)?;
-    }
-    Ok(copy)
 }

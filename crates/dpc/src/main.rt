@@ -3,8 +3,6 @@
 
 mod adapters;
 mod status;
-#[cfg(test)]
-mod tests;
 
 use adapters::{FileLibrary, Writing};
 use dc_top::dpc;

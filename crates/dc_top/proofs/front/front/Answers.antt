@@ -1,6 +1,6 @@
 use Rattle.std.proofs.Common.{rules, ◌≡◌, ◌∙◌, ap, sym, subst, refl, Ok, Err}
-use Rattle.dc_front.specs.Front.{judged_of}
-use Rattle.dc_front.specs.Judging.{Answers}
+use Rattle.core_front.specs.Front.{judged_of}
+use Rattle.core_front.specs.Judging.{Answers}
 use Rattle.dc_top.proofs.Verdicts.{module_fails, module_is}
 use Rattle.dc_top.proofs.front.front.Goals as goal
 

@@ -1,5 +1,5 @@
 use Rattle.std.proofs.Common.{[], ◌∷◌, ◌++◌, length, ap, ◌∙◌, subst}
-use Rattle.dc_lower.specs.Runs.{Runs}
+use Rattle.core_lower.specs.Runs.{Runs}
 use Rattle.dc_top.proofs.Exits.{opened_holds}
 use Rattle.dc_top.proofs.run.load.Goals as goal
 

@@ -1,5 +1,5 @@
 use Rattle.dc_types.specs.Ordered.{step_order}
-use Rattle.dc_types.proofs.Ordering.{place_order, question_order}
+use Rattle.dc_types.proofs.Ordering.{place_order}
 use Rattle.dc_types.proofs.laws.order_laws.Goals as goal
 
 pub returns-clause-steps : goal.returns-clause-steps
@@ -7,6 +7,3 @@ returns-clause-steps c = step_order
 
 pub returns-clause-places : goal.returns-clause-places
 returns-clause-places c = place_order
-
-pub returns-clause-questions : goal.returns-clause-questions
-returns-clause-questions c = question_order

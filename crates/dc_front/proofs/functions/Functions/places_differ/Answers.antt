@@ -1,8 +1,0 @@
-use Rattle.std.proofs.Common.{subst}
-use Rattle.std.specs.Prelude.{nat_eq}
-use Rattle.dc_front.specs.Naming.{Apart, place_of}
-use Rattle.dc_front.proofs.Naming.{keys_differ}
-use Rattle.dc_front.proofs.functions.Functions.places_differ.Goals as goal
-
-pub returns : goal.returns
-returns c = subst Apart c.self.view_is (keys_differ nat_eq place_of c.self.inside.places c.self.inside.all.items c.self.invariant.1)

@@ -1,7 +1,0 @@
-use Rattle.std.proofs.Common.{◌≡◌, [], drop}
-use Rattle.dc_front.specs.JudgingStatements.{each_body}
-use Rattle.dc_front.proofs.judge_programs.bodies.Given as goal
-
--- those so far, with the rest
-abbrev pub invariant-loop-f : goal.invariant-loop-f
-invariant-loop-f l = each_body l.all (drop l.f-index l.known.functions) l.known ≡ each_body [] l.known.functions l.known

@@ -1,7 +1,0 @@
-use Rattle.std.proofs.Common.{◌≡◌, [], drop}
-use Rattle.dc_front.specs.JudgingStatements.{each_parameter}
-use Rattle.dc_front.proofs.judge_programs.parameters.Given as goal
-
--- those so far, with the rest
-abbrev pub invariant-loop-parameter : goal.invariant-loop-parameter
-invariant-loop-parameter l = each_parameter l.all (drop l.parameter-index l.written) l.known ≡ each_parameter [] l.written l.known

@@ -1,0 +1,6 @@
+pub mod Joining
+pub mod Turning
+pub mod Digits
+pub mod Depths
+pub mod Skipping
+pub mod Reading

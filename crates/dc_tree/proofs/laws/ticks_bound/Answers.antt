@@ -1,5 +1,0 @@
-use Rattle.dc_tree.proofs.Ticking as ticking
-use Rattle.dc_tree.proofs.laws.ticks_bound.Goals as goal
-
-pub returns : goal.returns
-returns c = ticking.ticks_bound

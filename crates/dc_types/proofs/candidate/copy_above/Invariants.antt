@@ -1,5 +1,0 @@
-use Rattle.std.proofs.Common.{◌≡◌, take}
-use Rattle.dc_types.proofs.candidate.copy_above.Given as goal
-
-abbrev pub invariant-loop-is_above : goal.invariant-loop-is_above
-invariant-loop-is_above l = l.copy ≡ take l.is_above-index l.is_above-items

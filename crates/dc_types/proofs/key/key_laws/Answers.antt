@@ -1,5 +1,0 @@
-use Rattle.dc_types.proofs.Reading.{one_key}
-use Rattle.dc_types.proofs.key.key_laws.Goals as goal
-
-pub returns : goal.returns
-returns c = one_key

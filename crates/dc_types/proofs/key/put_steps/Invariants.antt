@@ -1,6 +1,0 @@
-use Rattle.std.proofs.Common.{◌≡◌, ◌++◌, take}
-use Rattle.dc_types.specs.KeyTexts.{steps_text}
-use Rattle.dc_types.proofs.key.put_steps.Given as goal
-
-abbrev pub invariant-loop-step : goal.invariant-loop-step
-invariant-loop-step l = l.out ≡ l.initial.out ++ steps_text (take l.step-index l.steps)

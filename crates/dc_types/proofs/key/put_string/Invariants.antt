@@ -1,6 +1,0 @@
-use Rattle.std.proofs.Common.{◌≡◌, ◌++◌, take, map}
-use Rattle.dc_types.specs.KeyTexts.{byte}
-use Rattle.dc_types.proofs.key.put_string.Given as goal
-
-abbrev pub invariant-loop-tree : goal.invariant-loop-tree
-invariant-loop-tree l = l.out ≡ l.initial.out ++ map byte (take l.tree-index l.bytes)

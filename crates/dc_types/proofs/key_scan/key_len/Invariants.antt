@@ -1,6 +1,0 @@
-use Rattle.std.proofs.Common.{◌≡◌, ◌+◌, ◌≤◌, drop}
-use Rattle.dc_types.specs.KeyReading.{key_len, outside}
-use Rattle.dc_types.proofs.key_scan.key_len.Given as goal
-
-abbrev pub invariant-loop-at : goal.invariant-loop-at
-invariant-loop-at l = (l.at + key_len l.scan (drop l.at l.bytes) ≡ key_len (outside 0) l.bytes) × (l.scan.depth ≤ l.at)

@@ -1,5 +1,0 @@
-use Rattle.dc_types.proofs.Copying.{Carries}
-use Rattle.dc_types.proofs.layout.copy_structs.Given as goal
-
-abbrev pub invariant-loop-at : goal.invariant-loop-at
-invariant-loop-at l = Carries l.copy.entries l.at-iterator l.initial.at-iterator
