@@ -1,7 +1,7 @@
 // Questions, what is known of them, and how they are judged.
 use crate::{CondId, Env, Symbol};
 use dc_syntax::{List, NodeId};
-use dc_tree::{DeclId, PlaceId, SpotId, TreeId, TypeId, UnitId, ValueId};
+use dc_tree::{DeclId, PlaceId, SpotId, TreeId, TypeId, UnitId, ValueId, Where};
 
 /// What is asked of a place, in the order in which questions at one place are begun.
 #[derive(Clone, Copy, PartialEq, Eq, PartialOrd, Ord, Hash)]
@@ -50,12 +50,12 @@ pub enum Work {
     Layout(UnitId),
     Signature(DeclId),
     BodyOf(DeclId),
-    /// The evaluation of a resolved expression; of a condition it is whether the value isn't 0.
-    Eval(TreeId),
+    /// The evaluation of a resolved expression, and where it stands.
+    Eval(TreeId, Where),
     /// The initialiser of a variable, a field, a constant or an enum's member.
     Initial(DeclId),
-    /// The instance, which is introduced.
-    Instance(UnitId),
+    /// The instance, which is introduced, and where it is named.
+    Instance(UnitId, Where),
     /// The constraint of an instance.
     Constraint(UnitId),
     /// A conditional of a unit.
@@ -65,5 +65,5 @@ pub enum Work {
     /// A `static if`, `static foreach` or `static assert` in a body.
     Local(Env, NodeId),
     /// A mixin of statements or of an expression, of the text of this value.
-    Mix(Env, NodeId, ValueId, TypeId),
+    Mix(Env, NodeId, ValueId),
 }

@@ -1,6 +1,6 @@
 // Arguments of templates.
 use crate::Symbol;
-use dc_tree::{PlaceId, TypeId, ValueId};
+use dc_tree::{DeclId, PlaceId, TypeId, ValueId, Where};
 
 /// An argument of a template's instance.
 #[derive(Clone, Copy)]
@@ -9,6 +9,8 @@ pub enum Arg {
     OfValue(TypeId, ValueId),
     /// A declaration, a module or an instance, and its place.
     OfSymbol(Symbol, PlaceId),
+    /// A module variable as it is written: its value is asked only where a parameter wants one.
+    Written(DeclId, Where),
     /// Of a parameter that isn't bound yet.
     Missing,
 }
@@ -20,6 +22,7 @@ impl Arg {
             Arg::OfType(of) => Some(Symbol::Type(of)),
             Arg::OfValue(of, value) => Some(Symbol::Value(of, value)),
             Arg::OfSymbol(symbol, _) => Some(symbol),
+            Arg::Written(decl, _) => Some(Symbol::Variable(decl)),
             Arg::Missing => None,
         }
     }

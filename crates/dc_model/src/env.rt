@@ -17,6 +17,8 @@ pub struct Env {
     pub flow: Option<FlowId>,
     /// Whether no value is needed, as in `typeof`.
     pub in_typeof: bool,
+    /// Whether it is judged for template parameters that are no real types.
+    pub in_trial: bool,
     /// How many parameter types of candidates are open around it.
     pub guards: u8,
 }

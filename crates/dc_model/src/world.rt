@@ -299,6 +299,14 @@ impl World {
         }
     }
 
+    /// Names of a `static foreach` around one spot are those around another.
+    pub fn inherit_binds(&mut self, from: SpotId, to: SpotId) -> Result<(), Want> {
+        if let (Some(bind), None) = (self.bind_of(from), self.bind_of(to)) {
+            self.spot_binds.insert(to, bind)?;
+        }
+        Ok(())
+    }
+
     /// The answer of a question that is answered.
     pub fn answer(&self, question: Question) -> Option<Answer> {
         self.answers.get(&question).copied()

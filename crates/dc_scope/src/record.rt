@@ -63,6 +63,7 @@ fn env_of(noted: Noted) -> Env {
         this: None,
         flow: None,
         in_typeof: false,
+        in_trial: false,
         guards: 0,
     }
 }

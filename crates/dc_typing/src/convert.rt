@@ -111,7 +111,7 @@ fn coerce_items(
 }
 
 /// A literal of characters as a string keeps the value of one.
-fn as_text(w: &mut World, tree: TreeId) -> Result<TreeId, Stop> {
+pub(crate) fn as_text(w: &mut World, tree: TreeId) -> Result<TreeId, Stop> {
     let known_tree = w.pool.trees.get(tree);
     let Some(value) = known_tree.value else {
         return Ok(tree);

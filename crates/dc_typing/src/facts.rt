@@ -42,6 +42,7 @@ pub fn unit_env(w: &mut World, unit: UnitId, spot: SpotId) -> Result<Env, Stop> 
         this,
         flow: None,
         in_typeof: false,
+        in_trial: false,
         guards: 0,
     })
 }

@@ -211,7 +211,7 @@ fn push_arg(w: &mut World, arg: Arg, text: &mut Vec<u8>) -> Result<(), Stop> {
             text.push(b'&')?;
             push_place(w, place, text)
         }
-        Arg::Missing => Ok(()),
+        Arg::Written(_, _) | Arg::Missing => Ok(()),
     }
 }
 

@@ -434,3 +434,16 @@ impl Property {
         }
     }
 }
+
+/// The member of that name of a value that is a struct; nothing where the type has none.
+pub(crate) fn rows_symbol_within(
+    w: &mut World,
+    env: Env,
+    value: dc_tree::TreeId,
+    sought: Sought,
+) -> Result<Option<Symbol>, Stop> {
+    match w.pool.types.get(w.pool.trees.get(value).of) {
+        Type::Struct(unit) => look_within(w, env, unit, sought),
+        _ => Ok(None),
+    }
+}

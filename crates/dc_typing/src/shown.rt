@@ -93,7 +93,7 @@ fn show_arg(w: &mut World, arg: Arg, text: &mut Vec<u8>, depth: u32) -> Result<(
             Some(decl) => show_decl(w, decl, text),
             None => show_module(w, place, text),
         },
-        Arg::Missing => Ok(()),
+        Arg::Written(_, _) | Arg::Missing => Ok(()),
     }
 }
 
