@@ -16,8 +16,10 @@ pub struct Decl {
     pub hidden: bool,
     /// The number of a variable in its declaration, or of a member in its enum.
     pub index: u32,
-    /// The enum of a member, the first member of an enum.
+    /// The first member of an enum, or the next one behind a member.
     pub other: Option<DeclId>,
+    /// The enum of a member.
+    pub owner: Option<DeclId>,
     /// Whether it has template parameters that no instance binds.
     pub is_template: bool,
     /// The unit of a struct, or of the instance whose declaration this is.

@@ -106,6 +106,16 @@ impl Locals {
         at
     }
 
+    /// How many names are declared so far.
+    pub fn mark(&self) -> usize {
+        self.names.len()
+    }
+
+    /// Forgets the names that were declared behind a mark.
+    pub fn forget(&mut self, mark: usize) {
+        self.names.truncate(mark);
+    }
+
     /// Declares a name in a block itself.
     pub fn put(&mut self, block: BlockId, name: NameId, symbol: Symbol) -> Result<(), Want> {
         self.names.insert(Key { block, name }, symbol)?;

@@ -18,6 +18,8 @@ pub struct Stmt {
 #[derive(Clone, Copy)]
 pub enum StmtForm {
     Block(List),
+    /// Statements that stand in the place of one, as the contents of a `static if`.
+    Sequence(List),
     Expr(TreeId),
     Declare(VarId, TreeId),
     /// A condition, what is done where it holds, and else.

@@ -1,5 +1,5 @@
 // Array literals, `?:`, and the type that parts have together (D specification, "Expressions", "Array Literals").
-use crate::convert::{at_of, coerce};
+use crate::conversion::{at_of, coerce};
 use crate::expression::judge;
 use crate::facts::deeper;
 use crate::guards::all_members;
@@ -78,7 +78,7 @@ fn members_node(w: &World, items: List) -> Option<NodeId> {
     }
     let only = w.pool.syntax.item(items, 0);
     match w.pool.syntax.node(only).form {
-        Form::Traits(name, _, _) if w.pool.names.bytes(name) == b"allMembers" => Some(only),
+        Form::Traits(name, _, _) if w.pool.names.bytes(name) == b"allMembers".as_slice() => Some(only),
         _ => None,
     }
 }
@@ -193,7 +193,7 @@ fn wanted_literal(
     let items = elements(w, parts, element)?;
     let made = aggregate(w, TreeForm::Array(items, items), items, wanted, at)?;
     if wanted == TypeId::STRING {
-        return crate::convert::as_text(w, made);
+        return crate::conversion::as_text(w, made);
     }
     Ok(made)
 }

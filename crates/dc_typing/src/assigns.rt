@@ -1,10 +1,10 @@
 // Assignments (D specification, "Expressions", "Assign Expressions"; "Arrays", "Array Copying").
-use crate::convert::{coerce, convert};
+use crate::conversion::{coerce, convert};
 use crate::expression::{bare_node, judge, judge_to};
 use crate::facts::deeper;
 use crate::levels::{NONE, Source, level};
 use crate::make::add;
-use crate::resolve::here;
+use crate::resolution::here;
 use crate::updates::{
     Update, appended, arithmetic, check_writable, element_start, length_place, updated,
 };

@@ -1,11 +1,11 @@
 // Calls (D specification, "Expressions", "Function Calls"; "Functions", "Uniform Function Call Syntax").
-use crate::convert::{coerce, convert, own};
+use crate::conversion::{coerce, convert, own};
 use crate::expression::{judge, judge_to};
 use crate::facts::{deeper, fields_of, signature_of, this_unit};
 use crate::make::{add, aggregate, constant};
 use crate::names::{Sought, finished, look, named, package_end, qualified, rows_symbol_within};
 use crate::overloads::{Chosen, choose};
-use crate::resolve::{Resolved, applied, here, resolve, sought_of};
+use crate::resolution::{Resolved, applied, here, resolve, sought_of};
 use crate::templates::name_instance;
 use crate::values::{implicit_this, value};
 use dc_model::{DeclKind, Env, Lookup, SetId, Stop, Symbol, World};

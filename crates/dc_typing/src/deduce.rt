@@ -1,5 +1,5 @@
 // Deducing the arguments of function templates (D specification, "Templates", "Function Templates").
-use crate::convert::slice_of;
+use crate::conversion::slice_of;
 use crate::facts::deeper;
 use crate::levels::{NONE, Source, level, type_of};
 use crate::make::number;

@@ -1,9 +1,9 @@
 // Elements and parts of arrays (D specification, "Arrays", "Indexing" and "Slicing").
-use crate::convert::{as_kind, own, slice_of, whole};
+use crate::conversion::{as_kind, own, slice_of, whole};
 use crate::expression::judge;
 use crate::facts::deeper;
 use crate::make::bare;
-use crate::resolve::{Resolved, here};
+use crate::resolution::{Resolved, here};
 use crate::values::value;
 use dc_model::{Env, Stop, Symbol, World};
 use dc_syntax::NodeId;

@@ -2,7 +2,7 @@
 use crate::expression::{condition, judge, judge_to};
 use crate::facts::deeper;
 use crate::parts::{first_local, weight};
-use crate::resolve::here;
+use crate::resolution::here;
 use dc_model::{Answer, Ask, Env, Question, Stop, Work, World};
 use dc_syntax::NodeId;
 use dc_tree::{TreeId, TypeId, ValueId, Where};

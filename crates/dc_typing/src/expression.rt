@@ -1,12 +1,12 @@
 // Judging expressions (D specification, "Expressions").
 use crate::aggregates::array;
 use crate::assigns::{assign, assign_operator};
-use crate::convert::{at_of, convert};
+use crate::conversion::{at_of, convert};
 use crate::facts::{check_cells, deeper, start_value};
 use crate::guards::{is_struct, is_type, is_valid, traits};
 use crate::make::{add, bare, constant, logical, number};
 use crate::operators::{chained, compare, unary_number};
-use crate::resolve::{here, resolved_value};
+use crate::resolution::{here, resolved_value};
 use crate::types::judge_type;
 use crate::updates::step_before;
 use crate::values::this;
@@ -96,7 +96,7 @@ fn dollar(w: &mut World, env: Env, at: Where) -> Result<TreeId, Stop> {
     let name = w.pool.names.number(b"$")?;
     match w.locals.find(env.block, name) {
         Some(symbol) => {
-            let found = crate::resolve::Resolved {
+            let found = crate::resolution::Resolved {
                 symbol,
                 name_at: at,
             };

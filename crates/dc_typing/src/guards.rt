@@ -6,7 +6,7 @@ use crate::facts::deeper;
 use crate::levels::{NONE, Source, level};
 use crate::make::truth;
 use crate::names::{Property, Sought, has_enumerator, look_within, package_end};
-use crate::resolve::{here, resolve};
+use crate::resolution::{here, resolve};
 use crate::shown::text_of;
 use crate::types::judge_type;
 use crate::values::value;
@@ -241,7 +241,7 @@ fn trait_symbol(w: &mut World, env: Env, n: NodeId, depth: u32) -> Result<Symbol
         Symbol::Type(_) | Symbol::Module(_) | Symbol::Instance(_) => Ok(symbol),
         _ => {
             let at = here(env, w.pool.syntax.node(n).at);
-            let whole = crate::resolve::Resolved { symbol, ..found };
+            let whole = crate::resolution::Resolved { symbol, ..found };
             let tree = value(w, env, whole, at)?;
             Ok(Symbol::Type(w.pool.trees.get(tree).of))
         }

@@ -8,7 +8,7 @@
 mod aggregates;
 mod assigns;
 mod calls;
-mod convert;
+mod conversion;
 mod deduce;
 mod elements;
 mod evals;
@@ -22,17 +22,17 @@ mod mixins;
 mod names;
 mod operators;
 mod overloads;
-mod parameters;
+mod taking;
 mod parts;
 mod properties;
-mod resolve;
+mod resolution;
 mod shown;
 mod templates;
 mod types;
 mod updates;
 mod values;
 
-pub use convert::{coerce, convert};
+pub use conversion::{coerce, convert};
 pub use evals::{WEIGHT, Want, evaluate, evaluated};
 pub use expression::{condition, judge, judge_to};
 pub use facts::{
@@ -42,10 +42,10 @@ pub use facts::{
 pub use guards::{all_members, guarded, settled};
 pub use levels::{CONVERTS, NONE, SAME, Source, level};
 pub use mixins::mixin_text;
-pub use names::Sought;
-pub use parameters::{check_storage, parameters};
+pub use names::{Sought, package_end};
+pub use taking::{check_storage, parameters};
 pub use parts::{first_local, push_parts, weight};
-pub use resolve::{Resolved, resolve};
+pub use resolution::{Resolved, resolve};
 pub use shown::{text_of, type_text, value_text};
 pub use templates::constraint_of;
 pub use types::judge_type;

@@ -1,7 +1,7 @@
 // Mixins (D specification, "Statements", "Mixin Statement"; "Expressions", "Mixin Expressions").
 use crate::evals::{Want, evaluate};
 use crate::facts::deeper;
-use crate::resolve::here;
+use crate::resolution::here;
 use dc_model::{Answer, Ask, Env, Question, Stop, Work, World};
 use dc_syntax::NodeId;
 use dc_tree::{SpotId, Type, TypeId, ValueId};

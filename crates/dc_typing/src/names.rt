@@ -241,7 +241,7 @@ pub(crate) fn finished(w: &World, symbol: Symbol) -> Symbol {
 }
 
 /// What a dotted name that ends here stands for: the longest module that begins it, and in it what follows.
-pub(crate) fn package_end(w: &mut World, env: Env, symbol: Symbol) -> Result<Symbol, Stop> {
+pub fn package_end(w: &mut World, env: Env, symbol: Symbol) -> Result<Symbol, Stop> {
     let Symbol::Package(package) = symbol else {
         return Ok(symbol);
     };

@@ -1,5 +1,5 @@
 // Operators on judged operands (D specification, "Expressions"; "Types", "Usual Arithmetic Conversions").
-use crate::convert::{as_kind, as_slice, at_of, coerce, renumbered, slice_of};
+use crate::conversion::{as_kind, as_slice, at_of, coerce, renumbered, slice_of};
 use crate::facts::{Holding, fields_of, holds};
 use crate::levels::{NONE, Source, bits, level};
 use crate::make::{add, add_number, binary, compared, fitted, known, logical, range, unary};

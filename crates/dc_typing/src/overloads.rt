@@ -4,7 +4,7 @@ use crate::facts::{deeper, signature_of};
 use crate::guards::guarded;
 use crate::levels::{NONE, SAME, Source, level};
 use crate::names::Sought;
-use crate::parameters::{opaque_parameters, parameters_in};
+use crate::taking::{opaque_parameters, parameters_in};
 use crate::templates::{constraint_holds, instance_of};
 use dc_model::{Arg, DeclKind, Env, FunctionSet, Stop, World};
 use dc_tree::{DeclId, Taken, TreeId, Type, TypeId, UnitId};
@@ -104,7 +104,7 @@ fn builtin_level(
 
 /// The parameters of a candidate, judged for the call; nothing where it is taken out.
 #[cycle(judging)]
-fn candidate(
+fn judged_candidate(
     w: &mut World,
     env: Env,
     decl: DeclId,
@@ -166,7 +166,7 @@ fn levelled(
             builtin_level(w, decl, explicit, args)?,
         )
     } else {
-        let chosen = candidate(w, env, decl, explicit, sources, sought, all, less)?;
+        let chosen = judged_candidate(w, env, decl, explicit, sources, sought, all, less)?;
         let own = match all.as_slice().get(from..) {
             Some(own) => own,
             None => &[],
@@ -350,7 +350,7 @@ fn is_callable(
         return Ok(false);
     };
     let unit = instance_of(w, decl, bound.as_slice(), known.at)?;
-    let found = crate::parameters::trial_parameters(w, unit, less);
+    let found = crate::taking::trial_parameters(w, unit, less);
     match guarded(found)? {
         Some(taken) => Ok(call_level(w, taken.as_slice(), sources) > NONE),
         None => Ok(false),

@@ -1,5 +1,5 @@
 // Properties of values (D specification, "Properties").
-use crate::convert::as_slice;
+use crate::conversion::as_slice;
 use crate::make::{add_number, bare};
 use crate::names::{Property, Sought, type_property};
 use dc_model::{Stop, Symbol, World};

@@ -5,8 +5,8 @@ use crate::keys::{KEY_BYTES, key_text};
 use crate::levels::{NONE, Source, level};
 use crate::make::constant;
 use crate::names::{Sought, decl_symbol, look_within, package_end};
-use crate::parameters::trial_unit;
-use crate::resolve::{here, resolve};
+use crate::taking::trial_unit;
+use crate::resolution::{here, resolve};
 use crate::types::judge_type;
 use dc_model::{
     Answer, Arg, Ask, Decl, DeclKind, Env, FunctionSet, Question, SetId, Stop, Symbol, Unit,
@@ -264,7 +264,7 @@ fn variable_value(
     variable: DeclId,
     at: Where,
 ) -> Result<(TypeId, ValueId), Stop> {
-    let found = crate::resolve::Resolved {
+    let found = crate::resolution::Resolved {
         symbol: Symbol::Variable(variable),
         name_at: at,
     };
@@ -303,7 +303,7 @@ fn converted(
     if level(w, Source::Tree(tree), to) == NONE {
         return Ok(None);
     }
-    let value = crate::convert::converted_value(w, value, from, to)?;
+    let value = crate::conversion::converted_value(w, value, from, to)?;
     Ok(Some(Arg::OfValue(to, value)))
 }
 

@@ -2,7 +2,7 @@
 use crate::evals::{Want, evaluate};
 use crate::facts::{TYPE_CELLS, deeper};
 use crate::names::{finished, named, package_end, qualified};
-use crate::resolve::{applied, here, resolve, sought_of};
+use crate::resolution::{applied, here, resolve, sought_of};
 use crate::values::value;
 use dc_ast::BasicType;
 use dc_model::{Env, Stop, Symbol, World};
@@ -141,7 +141,7 @@ fn type_of_expression(w: &mut World, env: Env, e: NodeId, depth: u32) -> Result<
     let at = here(env, w.pool.syntax.node(e).at);
     let found = resolve(w, inner, e, less)?;
     let symbol = package_end(w, inner, found.symbol)?;
-    let whole = crate::resolve::Resolved { symbol, ..found };
+    let whole = crate::resolution::Resolved { symbol, ..found };
     match symbol {
         Symbol::Type(_) => w.refuse(10, at, None),
         Symbol::Method(_, _) => w.refuse(10, found.name_at, None),

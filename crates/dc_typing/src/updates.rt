@@ -1,10 +1,10 @@
 // `op=`, `++` and `--` on judged places (D specification, "Expressions", "Assign Expressions").
-use crate::convert::{as_kind, coerce};
+use crate::conversion::{as_kind, coerce};
 use crate::facts::start_value;
 use crate::levels::{NONE, Source, level};
 use crate::make::{add, number};
 use crate::operators::{is_shift, place_slice};
-use crate::resolve::Resolved;
+use crate::resolution::Resolved;
 use crate::values::value;
 use dc_ast::{AssignOperator, UnaryOperator};
 use dc_convert::{common, promoted};

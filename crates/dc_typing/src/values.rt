@@ -2,7 +2,7 @@
 use crate::facts::{this_unit, variable_type};
 use crate::make::{add, bare, constant};
 use crate::names::package_end;
-use crate::resolve::Resolved;
+use crate::resolution::Resolved;
 use dc_model::{Env, Stop, Symbol, World};
 use dc_syntax::Form;
 use dc_tree::{DeclId, Tree, TreeForm, TreeId, Type, TypeId, VarId, Where};

@@ -1,6 +1,6 @@
 // The parameters of functions (D specification, "Functions", "Function Parameters").
 use crate::facts::{Holding, decl_env, deeper, holds};
-use crate::resolve::here;
+use crate::resolution::here;
 use crate::types::judge_type;
 use dc_ast::Storage;
 use dc_model::{Arg, Decl, Env, Stop, Unit, World};
