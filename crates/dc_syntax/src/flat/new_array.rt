@@ -83,18 +83,22 @@ impl Flat<'_> {
         })
     }
 
-    /// The brackets of the new array's type.
+    /// The brackets of the new array's type, which begins at `at`.
     fn new_brackets(&mut self, at: u32, parts: NewParts, suffixes: &[u32]) -> Result<List, Want> {
         let before = match suffixes.get(..parts.before) {
             Some(before) => before,
             None => suffixes,
         };
-        if !parts.in_brackets {
-            return self.list(before);
+        let mut brackets = Vec::new(self.alloc);
+        for suffix in before {
+            let bracket = self.syntax.node(NodeId(*suffix)).form;
+            let node = self.add(at, bracket)?;
+            brackets.push(node.0)?;
         }
-        let slice = self.add(at, Form::All)?;
-        let mut brackets = Vec::from_slice(self.alloc, before)?;
-        brackets.push(slice.0)?;
+        if parts.in_brackets {
+            let slice = self.add(at, Form::All)?;
+            brackets.push(slice.0)?;
+        }
         self.list(brackets.as_slice())
     }
 
@@ -107,12 +111,12 @@ impl Flat<'_> {
         suffixes: &[u32],
     ) -> Result<Form, Want> {
         let parts = self.new_parts(at, suffixes)?;
-        let brackets = self.new_brackets(at, parts, suffixes)?;
+        let type_at = self.syntax.node(base).at;
+        let brackets = self.new_brackets(type_at, parts, suffixes)?;
         let of = if brackets.len == 0 {
             base
         } else {
-            let base_at = self.syntax.node(base).at;
-            self.add(base_at, Form::Brackets(base, brackets))?
+            self.add(type_at, Form::Brackets(base, brackets))?
         };
         let form = Form::New(of, parts.length);
         match suffixes.get(parts.before..) {
