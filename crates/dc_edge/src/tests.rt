@@ -11,9 +11,9 @@ fn puts_fail_by_their_numbers(rt: HostRuntime) -> Result<(), Fail> {
         calls: 0,
         faults: 0,
     };
-    assert_eq!(rt; sink.put(b"a"), Ok(()));
-    assert_eq!(rt; sink.put(b"b"), Err(SinkFault::Failed));
-    assert_eq!(rt; sink.put(b"c"), Ok(()));
+    assert!(rt; matches!(sink.put(b"a"), Ok(())));
+    assert!(rt; matches!(sink.put(b"b"), Err(SinkFault::Failed)));
+    assert!(rt; matches!(sink.put(b"c"), Ok(())));
     assert_eq!(rt; sink.bytes.as_slice(), b"ac".as_slice());
     assert_eq!(rt; (sink.calls, sink.faults), (3, 1));
     Ok(())
