@@ -1,7 +1,8 @@
 // All tables of a program that is elaborated.
 use crate::{
-    Answer, Arg, Args, Bind, BindId, BlockId, Cond, CondId, Decl, Dotted, Flow, FlowId, FunctionSet, Item, ItemId,
-    ItemKind, Locals, Noted, Question, Refused, RowId, Rows, SetId, Stop, Symbol, Trace, Unit, UnitKind, Work, WorkId,
+    Answer, Arg, Args, Bind, BindId, BlockId, Cond, CondId, Decl, Dotted, Flow, FlowId,
+    FunctionSet, Item, ItemId, ItemKind, Locals, Noted, Question, Refused, RowId, Rows, SetId,
+    Stop, Symbol, Trace, Unit, UnitKind, Work, WorkId,
 };
 use dc_syntax::{Form, List, NameId, NodeId, Want};
 use dc_tree::{DeclId, PlaceId, PlaceStep, Pool, SpotId, UnitId, Where};
@@ -279,7 +280,10 @@ impl World {
     pub fn parameters_of(&self, decl: DeclId) -> Result<Option<List>, Stop> {
         let syntax = &self.pool.syntax;
         Ok(match syntax.node(self.decl(decl)?.node).form {
-            Form::Function(n) => syntax.functions.get(n as usize).and_then(|f| f.template_parameters),
+            Form::Function(n) => syntax
+                .functions
+                .get(n as usize)
+                .and_then(|f| f.template_parameters),
             Form::Struct(n) | Form::Template(n) => {
                 syntax.structs.get(n as usize).and_then(|s| s.parameters)
             }
@@ -292,9 +296,9 @@ impl World {
     /// The name of a template's parameter.
     pub fn parameter_name(&self, n: NodeId) -> Option<NameId> {
         match self.pool.syntax.node(n).form {
-            Form::TypeParameter(name) | Form::ValueParameter(_, name) | Form::AliasParameter(name) => {
-                Some(name)
-            }
+            Form::TypeParameter(name)
+            | Form::ValueParameter(_, name)
+            | Form::AliasParameter(name) => { Some(name) }
             _ => None,
         }
     }

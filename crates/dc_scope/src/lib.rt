@@ -3,8 +3,8 @@
 //! A lookup stops with the need for a conditional where a unit that it comes to isn't settled.
 #![tactic(auto)]
 
-mod lookup;
 mod imports;
+mod lookup;
 mod packages;
 mod record;
 mod within;

@@ -89,9 +89,11 @@ fn is_unchanged(w: &mut World, noted: Noted, hits: &mut Vec<RowId>) -> Result<bo
         Some(found) => found,
         None => &[],
     };
-    Ok(other == noted.other
-        && found.len() == hits.len()
-        && hits.iter().all(|row| found.contains(row)))
+    Ok(
+        other == noted.other
+            && found.len() == hits.len()
+            && hits.iter().all(|row| found.contains(row)),
+    )
 }
 
 /// The first lookup that later rows have changed, as the rule that it breaks.

@@ -1,6 +1,6 @@
 // Looking for a name in one unit.
-use crate::lookup::{Patience, rows_named};
 use crate::imports::{stands_in, through_public, wait};
+use crate::lookup::{Patience, rows_named};
 use dc_model::{Env, RowId, Stop, UnitKind, World};
 use dc_syntax::NameId;
 use dc_tree::UnitId;
