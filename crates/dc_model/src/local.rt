@@ -1,7 +1,7 @@
 // Names of bodies, and names of rounds.
 use crate::{RowId, Symbol};
 use dc_syntax::{NameId, Want};
-use dc_tree::UnitId;
+use dc_tree::{UnitId, Where};
 use indexmap::IndexMap;
 use std::alloc::Global;
 
@@ -37,11 +37,18 @@ struct Key {
     name: NameId,
 }
 
+/// What a name stands for in a block, and where it is declared.
+#[derive(Clone, Copy)]
+struct Declared {
+    symbol: Symbol,
+    at: Where,
+}
+
 /// All blocks and the names that are declared in them.
 #[derive(Drop)]
 pub struct Locals {
     blocks: Vec<Block>,
-    names: IndexMap<Key, Symbol>,
+    names: IndexMap<Key, Declared>,
 }
 
 impl Locals {
@@ -75,17 +82,30 @@ impl Locals {
         }
     }
 
-    /// What a name stands for in the innermost block that declares it.
-    pub fn find(&self, from: Option<BlockId>, name: NameId) -> Option<Symbol> {
+    fn declared(&self, from: Option<BlockId>, name: NameId) -> Option<Declared> {
         let mut at = from;
         for _ in 0..u64::MAX {
             let block = at?;
-            if let Some(symbol) = self.names.get(&Key { block, name }) {
-                return Some(*symbol);
+            if let Some(declared) = self.names.get(&Key { block, name }) {
+                return Some(*declared);
             }
             at = self.block(block)?.outer;
         }
         None
+    }
+
+    /// What a name stands for in the innermost block that declares it.
+    pub fn find(&self, from: Option<BlockId>, name: NameId) -> Option<Symbol> {
+        self.declared(from, name).map(|declared| declared.symbol)
+    }
+
+    /// Whether a block or one around it declares a name at another place. A statement that is judged again declares
+    /// its names again at their places.
+    pub fn is_taken(&self, from: Option<BlockId>, name: NameId, at: Where) -> bool {
+        match self.declared(from, name) {
+            Some(declared) => declared.at != at,
+            None => false,
+        }
     }
 
     /// The block that takes what is declared in a block.
@@ -106,19 +126,16 @@ impl Locals {
         at
     }
 
-    /// How many names are declared so far.
-    pub fn mark(&self) -> usize {
-        self.names.len()
-    }
-
-    /// Forgets the names that were declared behind a mark.
-    pub fn forget(&mut self, mark: usize) {
-        self.names.truncate(mark);
-    }
-
     /// Declares a name in a block itself.
-    pub fn put(&mut self, block: BlockId, name: NameId, symbol: Symbol) -> Result<(), Want> {
-        self.names.insert(Key { block, name }, symbol)?;
+    pub fn put(
+        &mut self,
+        block: BlockId,
+        name: NameId,
+        symbol: Symbol,
+        at: Where,
+    ) -> Result<(), Want> {
+        self.names
+            .insert(Key { block, name }, Declared { symbol, at })?;
         Ok(())
     }
 }
