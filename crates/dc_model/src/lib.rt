@@ -1,6 +1,7 @@
 //! What judging knows: units, declarations, rows, answers, and where something is judged.
 //!
-//! Judging reads these tables and never changes a fact. Answers, rows and instances are introduced by the engine alone.
+//! Judging reads these tables and never changes a fact. Answers, rows and instances are introduced
+//! by the engine alone.
 #![tactic(auto)]
 
 mod answer;

@@ -22,7 +22,8 @@ pub struct Block {
 #[derive(Clone, Copy, PartialEq, Eq)]
 pub struct BindId(pub u32);
 
-/// The name of a `static foreach` among the declarations of a unit, and those around it in the same text.
+/// The name of a `static foreach` among the declarations of a unit, and those around it in the same
+/// text.
 #[derive(Clone, Copy)]
 pub struct Bind {
     pub unit: UnitId,
@@ -99,8 +100,8 @@ impl Locals {
         self.declared(from, name).map(|declared| declared.symbol)
     }
 
-    /// Whether a block or one around it declares a name at another place. A statement that is judged again declares
-    /// its names again at their places.
+    /// Whether a block or one around it declares a name at another place. A statement that is
+    /// judged again declares its names again at their places.
     pub fn is_taken(&self, from: Option<BlockId>, name: NameId, at: Where) -> bool {
         match self.declared(from, name) {
             Some(declared) => declared.at != at,

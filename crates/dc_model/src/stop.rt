@@ -41,8 +41,8 @@ impl<T: Drop> From<AllocFailed<T>> for Stop {
 }
 
 impl Refused {
-    /// Whether a guard is false where this is met in it, rather than that the program is refused (D specification,
-    /// "Traits", "compiles"; "Expressions", "Is Expressions").
+    /// Whether a guard is false where this is met in it, rather than that the program is refused (D
+    /// specification, "Traits", "compiles"; "Expressions", "Is Expressions").
     pub fn is_guarded(self) -> bool {
         match self.rule {
             5 | 6 | 10 | 11 | 12 | 13 | 22 => true,

@@ -4,7 +4,7 @@ use crate::{
     FunctionSet, Item, ItemId, ItemKind, Locals, Noted, Question, Refused, RowId, Rows, SetId,
     Stop, Symbol, Trace, Unit, UnitKind, Work, WorkId,
 };
-use dc_syntax::{Form, List, NameId, NodeId, Want};
+use dc_syntax::{Form, List, NameId, NodeId, Want, next_number};
 use dc_tree::{DeclId, PlaceId, PlaceStep, Pool, SpotId, UnitId, Where};
 use indexmap::{IndexMap, IndexSet};
 use std::alloc::Global;
@@ -43,13 +43,6 @@ pub struct World {
     /// The blocks in which the members of enums are names.
     pub enum_blocks: IndexMap<DeclId, BlockId>,
     pub trace: Trace,
-}
-
-fn number(index: usize) -> Result<u32, Want> {
-    match u32::try_from(index) {
-        Ok(n) => Ok(n),
-        Err(_) => Err(Want),
-    }
 }
 
 impl World {
@@ -115,32 +108,32 @@ impl World {
     }
 
     pub fn add_unit(&mut self, unit: Unit) -> Result<UnitId, Want> {
-        let n = number(self.units.len())?;
+        let n = next_number(self.units.len())?;
         self.units.push(unit)?;
         Ok(UnitId(n))
     }
 
     pub fn add_decl(&mut self, decl: Decl) -> Result<DeclId, Want> {
-        let n = number(self.decls.len())?;
+        let n = next_number(self.decls.len())?;
         self.decls.push(decl)?;
         Ok(DeclId(n))
     }
 
     pub fn add_work(&mut self, work: Work) -> Result<WorkId, Want> {
-        let n = number(self.works.len())?;
+        let n = next_number(self.works.len())?;
         self.works.push(work)?;
         Ok(WorkId(n))
     }
 
     pub fn add_flow(&mut self, flow: Flow) -> Result<FlowId, Want> {
-        let n = number(self.flows.len())?;
+        let n = next_number(self.flows.len())?;
         self.flows.push(flow)?;
         Ok(FlowId(n))
     }
 
     pub fn add_args(&mut self, args: &[Arg]) -> Result<Args, Want> {
-        let from = number(self.args.len())?;
-        let len = number(args.len())?;
+        let from = next_number(self.args.len())?;
+        let len = next_number(args.len())?;
         self.args.extend_from_slice(args)?;
         Ok(Args { from, len })
     }
@@ -154,7 +147,7 @@ impl World {
     }
 
     pub fn add_set(&mut self, set: FunctionSet) -> Result<SetId, Want> {
-        let n = number(self.sets.len())?;
+        let n = next_number(self.sets.len())?;
         self.sets.push(set)?;
         Ok(SetId(n))
     }
@@ -167,8 +160,8 @@ impl World {
     }
 
     pub fn add_members(&mut self, members: &[u32]) -> Result<List, Want> {
-        let from = number(self.set_members.len())?;
-        let len = number(members.len())?;
+        let from = next_number(self.set_members.len())?;
+        let len = next_number(members.len())?;
         self.set_members.extend_from_slice(members)?;
         Ok(List { from, len })
     }
@@ -191,7 +184,7 @@ impl World {
     }
 
     pub fn add_bind(&mut self, spot: SpotId, bind: Bind) -> Result<(), Want> {
-        let n = number(self.binds.len())?;
+        let n = next_number(self.binds.len())?;
         self.binds.push(bind)?;
         self.spot_binds.insert(spot, BindId(n))?;
         Ok(())
@@ -206,8 +199,8 @@ impl World {
     }
 
     pub fn add_paths(&mut self, paths: &[NameId]) -> Result<List, Want> {
-        let from = number(self.paths.len())?;
-        let len = number(paths.len())?;
+        let from = next_number(self.paths.len())?;
+        let len = next_number(paths.len())?;
         self.paths.extend_from_slice(paths)?;
         Ok(List { from, len })
     }
@@ -221,8 +214,8 @@ impl World {
     }
 
     pub fn add_dotted(&mut self, dotted: &[Dotted]) -> Result<List, Want> {
-        let from = number(self.dotted.len())?;
-        let len = number(dotted.len())?;
+        let from = next_number(self.dotted.len())?;
+        let len = next_number(dotted.len())?;
         self.dotted.extend_from_slice(dotted)?;
         Ok(List { from, len })
     }
@@ -354,14 +347,14 @@ impl World {
     }
 
     pub fn add_item(&mut self, item: Item) -> Result<ItemId, Want> {
-        let n = number(self.items.len())?;
+        let n = next_number(self.items.len())?;
         self.items.push(item)?;
         Ok(ItemId(n))
     }
 
     pub fn note(&mut self, noted: Noted, rows: &[RowId]) -> Result<(), Want> {
-        let from = number(self.trace.found.len())?;
-        let len = number(rows.len())?;
+        let from = next_number(self.trace.found.len())?;
+        let len = next_number(rows.len())?;
         self.trace.found.extend_from_slice(rows)?;
         self.trace.noted.push(Noted { from, len, ..noted })?;
         Ok(())

@@ -69,7 +69,8 @@ pub(crate) fn stands_in(w: &World, unit: UnitId, other: UnitId) -> Result<bool, 
     Ok(false)
 }
 
-/// The need for the first conditional of a unit that isn't settled, where the code doesn't stand in it.
+/// The need for the first conditional of a unit that isn't settled, where the code doesn't stand in
+/// it.
 pub(crate) fn wait(w: &mut World, env: Env, unit: UnitId) -> Result<(), Stop> {
     let Some(cond) = w.unit(unit)?.pending else {
         return Ok(());
@@ -140,8 +141,8 @@ fn own_rows(w: &World, step: Step, hits: &mut Vec<RowId>) -> Result<bool, Stop> 
     Ok(gives)
 }
 
-/// Adds the rows that a chain of imports gives for a name: of each module its own rows, or where it has none those
-/// that it imports publicly, each looked into once.
+/// Adds the rows that a chain of imports gives for a name: of each module its own rows, or where it
+/// has none those that it imports publicly, each looked into once.
 pub(crate) fn through(
     w: &mut World,
     env: Env,

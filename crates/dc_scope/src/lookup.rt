@@ -163,8 +163,8 @@ fn word(w: &World, name: NameId) -> Option<Symbol> {
     }
 }
 
-/// Looks for a name that isn't a local one: in the scopes, in their imports, among the built-in names, and as the
-/// first part of a module's name.
+/// Looks for a name that isn't a local one: in the scopes, in their imports, among the built-in
+/// names, and as the first part of a module's name.
 pub fn find(
     w: &mut World,
     env: Env,

@@ -5,7 +5,8 @@ use dc_model::{Env, RowId, Stop, UnitKind, World};
 use dc_syntax::NameId;
 use dc_tree::UnitId;
 
-/// The rows of a unit that code of a module sees: its own, else of a module those that it imports publicly.
+/// The rows of a unit that code of a module sees: its own, else of a module those that it imports
+/// publicly.
 pub(crate) fn rows_within(
     w: &mut World,
     env: Env,

@@ -1,7 +1,9 @@
-//! The trees of texts as numbered nodes: declarations, statements, expressions and types in one table.
+//! The trees of texts as numbered nodes: declarations, statements, expressions and types in one
+//! table.
 //!
-//! Judging a program goes over its trees many times and keeps them for long. So they are plain data that is copied
-//! by its number: a node says its form and the numbers of its parts, and a list is a stretch of a table of numbers.
+//! Judging a program goes over its trees many times and keeps them for long. So they are plain data
+//! that is copied by its number: a node says its form and the numbers of its parts, and a list is a
+//! stretch of a table of numbers.
 #![tactic(auto)]
 
 mod flat;
@@ -17,4 +19,4 @@ pub use parts::{
     AliasNode, ConstantNode, EnumNode, ForNode, ForeachNode, FunctionNode, ImportNode, ItemNode,
     LoopNode, ParameterNode, StaticForeachNode, StructNode, SwitchNode, VariableNode, View,
 };
-pub use syntax::{Syntax, Want};
+pub use syntax::{Syntax, Want, next_number};

@@ -3,7 +3,8 @@ use crate::Want;
 use indexmap::IndexSet;
 use std::alloc::Global;
 
-/// The number of a name: an identifier, a module's dotted name, a key text, or the bytes of a string.
+/// The number of a name: an identifier, a module's dotted name, a key text, or the bytes of a
+/// string.
 #[derive(Clone, Copy, PartialEq, Eq, PartialOrd, Ord, Hash)]
 pub struct NameId(pub u32);
 

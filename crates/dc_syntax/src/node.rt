@@ -16,15 +16,17 @@ pub struct List {
 
 /// A part of a text: the offset of its first byte in its text, and its form.
 ///
-/// The offset is that of the place which a refusal names: of a declaration the first byte after its attributes, of an
-/// operation the first byte of its first operand, of an enum's member or a further variable its name.
+/// The offset is that of the place which a refusal names: of a declaration the first byte after its
+/// attributes, of an operation the first byte of its first operand, of an enum's member or a
+/// further variable its name.
 #[derive(Clone, Copy)]
 pub struct Node {
     pub at: u32,
     pub form: Form,
 }
 
-/// The forms of nodes. A number in a side table of the same name stands where a form has many parts.
+/// The forms of nodes. A number in a side table of the same name stands where a form has many
+/// parts.
 #[derive(Clone, Copy)]
 pub enum Form {
     // ---- expressions

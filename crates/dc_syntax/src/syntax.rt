@@ -43,7 +43,7 @@ pub struct Syntax {
 }
 
 /// The number that the next item of a table gets.
-pub(crate) fn next_number(len: usize) -> Result<u32, Want> {
+pub fn next_number(len: usize) -> Result<u32, Want> {
     match u32::try_from(len) {
         Ok(n) => Ok(n),
         Err(_) => Err(Want),

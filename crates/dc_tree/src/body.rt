@@ -1,6 +1,6 @@
 // Resolved functions.
 use crate::{DeclId, PlaceId, StmtId, TypeId, Where};
-use dc_syntax::{List, NameId, Want};
+use dc_syntax::{List, NameId, Want, next_number};
 use indexmap::IndexMap;
 use std::alloc::Global;
 
@@ -18,21 +18,14 @@ pub struct Variable {
     pub is_const: bool,
     /// Whether it stands for a place whose address it holds.
     pub is_ref: bool,
-    /// Whether it is sliced, passed by address or called on, and so lives in a block of its own if its type holds a
-    /// fixed array.
+    /// Whether it is sliced, passed by address or called on, and so lives in a block of its own if
+    /// its type holds a fixed array.
     pub own: bool,
 }
 
 #[derive(Drop)]
 pub struct Variables {
     all: Vec<Variable>,
-}
-
-fn number(index: usize) -> Result<u32, Want> {
-    match u32::try_from(index) {
-        Ok(n) => Ok(n),
-        Err(_) => Err(Want),
-    }
 }
 
 impl Variables {
@@ -43,7 +36,7 @@ impl Variables {
     }
 
     pub fn add(&mut self, variable: Variable) -> Result<VarId, Want> {
-        let n = number(self.all.len())?;
+        let n = next_number(self.all.len())?;
         self.all.push(variable)?;
         Ok(VarId(n))
     }
@@ -115,8 +108,8 @@ impl Bodies {
         taken: &[Taken],
         result_type: TypeId,
     ) -> Result<(), Want> {
-        let from = number(self.taken.len())?;
-        let len = number(taken.len())?;
+        let from = next_number(self.taken.len())?;
+        let len = next_number(taken.len())?;
         self.taken.extend_from_slice(taken)?;
         let signature = Signature {
             from,

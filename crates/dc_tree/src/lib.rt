@@ -1,7 +1,8 @@
-//! The data of judging: places, types, values and resolved trees, each kept once and known by its number.
+//! The data of judging: places, types, values and resolved trees, each kept once and known by its
+//! number.
 //!
-//! A number leads to plain data that is copied; nothing here is changed once it is there, but for what a variable or
-//! a temporary needs.
+//! A number leads to plain data that is copied; nothing here is changed once it is there, but for
+//! what a variable or a temporary needs.
 #![tactic(auto)]
 
 mod body;

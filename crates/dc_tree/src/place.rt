@@ -1,5 +1,5 @@
 // Where something stands.
-use dc_syntax::{NameId, Names, Want};
+use dc_syntax::{NameId, Names, Want, next_number};
 use indexmap::{IndexMap, IndexSet};
 use std::alloc::Global;
 use std::cmp::Ordering;
@@ -44,7 +44,8 @@ struct Link {
     step: PlaceStep,
 }
 
-/// What the offsets of a text are offsets of: a file or a mixin's text, read in some round or instance.
+/// What the offsets of a text are offsets of: a file or a mixin's text, read in some round or
+/// instance.
 #[derive(Clone, Copy, PartialEq, Eq, Hash)]
 pub struct Spot {
     /// The module of the file, or the whole place of the `mixin` word.
@@ -57,7 +58,8 @@ pub struct Spot {
 
 /// All places and spots that were named.
 ///
-/// The rounds and instances that are open at a spot are kept as a chain of the same links as places.
+/// The rounds and instances that are open at a spot are kept as a chain of the same links as
+/// places.
 #[derive(Drop)]
 pub struct Places {
     alloc: Global,
@@ -71,13 +73,6 @@ const NOWHERE: Link = Link {
     before: PlaceId(0),
     step: PlaceStep::Module(NameId(0)),
 };
-
-fn number(index: usize) -> Result<u32, Want> {
-    match u32::try_from(index) {
-        Ok(n) => Ok(n),
-        Err(_) => Err(Want),
-    }
-}
 
 impl Places {
     pub fn new(alloc: Global) -> Places {
@@ -107,7 +102,7 @@ impl Places {
 
     fn linked(&mut self, link: Link) -> Result<PlaceId, Want> {
         let (index, _) = self.links.insert_full(link)?;
-        Ok(PlaceId(number(index)?))
+        Ok(PlaceId(next_number(index)?))
     }
 
     /// The place of a module.
@@ -136,7 +131,7 @@ impl Places {
 
     fn spotted(&mut self, spot: Spot) -> Result<SpotId, Want> {
         let (index, _) = self.spots.insert_full(spot)?;
-        Ok(SpotId(number(index)?))
+        Ok(SpotId(next_number(index)?))
     }
 
     /// The spot of a file.
@@ -192,7 +187,8 @@ impl Places {
         Ok(steps)
     }
 
-    /// The place of an offset: the offset, and behind it the rounds and instances that are open there.
+    /// The place of an offset: the offset, and behind it the rounds and instances that are open
+    /// there.
     pub fn place(&mut self, at: Where) -> Result<PlaceId, Want> {
         if let Some(known) = self.known.get(&at) {
             return Ok(*known);
@@ -226,7 +222,8 @@ impl Places {
         Ok(steps)
     }
 
-    /// The order of places: by the module's name, then step by step, a place before those inside it.
+    /// The order of places: by the module's name, then step by step, a place before those inside
+    /// it.
     pub fn compare(&self, names: &Names, a: PlaceId, b: PlaceId) -> Result<Ordering, Want> {
         if a == b {
             return Ok(Ordering::Equal);

@@ -1,6 +1,6 @@
 // Resolved statements.
 use crate::{TreeId, ValueId, VarId, Where};
-use dc_syntax::{List, Want};
+use dc_syntax::{List, Want, next_number};
 use std::alloc::Global;
 
 /// The number of a resolved statement.
@@ -53,7 +53,8 @@ pub struct WalkNode {
     pub body: StmtId,
 }
 
-/// A group of a `switch`: the values of its labels, none where it is the default, and its statements.
+/// A group of a `switch`: the values of its labels, none where it is the default, and its
+/// statements.
 #[derive(Clone, Copy)]
 pub struct CaseNode {
     /// Numbers of values; nothing for `default`.
@@ -70,13 +71,6 @@ pub struct Stmts {
     pub values: Vec<ValueId>,
 }
 
-fn number(index: usize) -> Result<u32, Want> {
-    match u32::try_from(index) {
-        Ok(n) => Ok(n),
-        Err(_) => Err(Want),
-    }
-}
-
 impl Stmts {
     pub fn new(alloc: Global) -> Stmts {
         Stmts {
@@ -89,7 +83,7 @@ impl Stmts {
     }
 
     pub fn add(&mut self, at: Where, form: StmtForm) -> Result<StmtId, Want> {
-        let n = number(self.all.len())?;
+        let n = next_number(self.all.len())?;
         self.all.push(Stmt { at, form })?;
         Ok(StmtId(n))
     }
@@ -108,8 +102,8 @@ impl Stmts {
     }
 
     pub fn list(&mut self, items: &[u32]) -> Result<List, Want> {
-        let from = number(self.numbers.len())?;
-        let len = number(items.len())?;
+        let from = next_number(self.numbers.len())?;
+        let len = next_number(items.len())?;
         self.numbers.extend_from_slice(items)?;
         Ok(List { from, len })
     }
@@ -123,7 +117,7 @@ impl Stmts {
     }
 
     pub fn add_walk(&mut self, walk: WalkNode) -> Result<u32, Want> {
-        let n = number(self.walks.len())?;
+        let n = next_number(self.walks.len())?;
         self.walks.push(walk)?;
         Ok(n)
     }
@@ -133,7 +127,7 @@ impl Stmts {
     }
 
     pub fn add_case(&mut self, case: CaseNode) -> Result<u32, Want> {
-        let n = number(self.cases.len())?;
+        let n = next_number(self.cases.len())?;
         self.cases.push(case)?;
         Ok(n)
     }

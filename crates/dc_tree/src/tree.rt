@@ -1,6 +1,6 @@
 // Resolved expressions.
 use crate::{DeclId, RangeId, TypeId, ValueId, VarId, Where};
-use dc_syntax::{List, Want};
+use dc_syntax::{List, Want, next_number};
 use dc_types::{BinOp, CmpOp, Kind, UnOp};
 use std::alloc::Global;
 
@@ -24,8 +24,8 @@ pub struct Tree {
     pub read_only: bool,
     /// The variable that the place lies in, where that isn't behind an address or a slice.
     pub root: Option<VarId>,
-    /// Whether this temporary is sliced, passed by address or called on, and so lives in a block of its own if its
-    /// type holds a fixed array.
+    /// Whether this temporary is sliced, passed by address or called on, and so lives in a block of
+    /// its own if its type holds a fixed array.
     pub own: bool,
 }
 
@@ -53,7 +53,8 @@ pub enum TreeForm {
     /// Both operands are of the kind, but of a shift the second, which is of its own.
     Binary(BinOp, Kind, TreeId, TreeId),
     Compare(CmpOp, Kind, TreeId, TreeId),
-    /// Equality of two structs, two fixed arrays or two slices of one type; `!=` where the flag is set.
+    /// Equality of two structs, two fixed arrays or two slices of one type; `!=` where the flag is
+    /// set.
     Same(bool, TreeId, TreeId),
     And(TreeId, TreeId),
     Or(TreeId, TreeId),
@@ -136,13 +137,6 @@ pub struct Trees {
     empty: Tree,
 }
 
-fn number(index: usize) -> Result<u32, Want> {
-    match u32::try_from(index) {
-        Ok(n) => Ok(n),
-        Err(_) => Err(Want),
-    }
-}
-
 impl Trees {
     pub fn new(alloc: Global) -> Trees {
         Trees {
@@ -168,7 +162,7 @@ impl Trees {
     }
 
     pub fn add(&mut self, tree: Tree) -> Result<TreeId, Want> {
-        let n = number(self.all.len())?;
+        let n = next_number(self.all.len())?;
         self.all.push(tree)?;
         Ok(TreeId(n))
     }
@@ -188,8 +182,8 @@ impl Trees {
     }
 
     pub fn list(&mut self, items: &[u32]) -> Result<List, Want> {
-        let from = number(self.numbers.len())?;
-        let len = number(items.len())?;
+        let from = next_number(self.numbers.len())?;
+        let len = next_number(items.len())?;
         self.numbers.extend_from_slice(items)?;
         Ok(List { from, len })
     }
@@ -210,7 +204,7 @@ impl Trees {
     }
 
     pub fn add_call(&mut self, call: CallNode) -> Result<u32, Want> {
-        let n = number(self.calls.len())?;
+        let n = next_number(self.calls.len())?;
         self.calls.push(call)?;
         Ok(n)
     }
@@ -220,7 +214,7 @@ impl Trees {
     }
 
     pub fn add_length(&mut self, length: LengthNode) -> Result<u32, Want> {
-        let n = number(self.lengths.len())?;
+        let n = next_number(self.lengths.len())?;
         self.lengths.push(length)?;
         Ok(n)
     }

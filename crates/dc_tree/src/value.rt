@@ -6,8 +6,8 @@ use std::alloc::Global;
 #[derive(Clone, Copy, PartialEq, Eq, PartialOrd, Ord, Hash)]
 pub struct ValueId(pub u32);
 
-/// A value, whose form follows its type: of a number or an enum of numbers a number, of a string its bytes, of an
-/// array or a struct a list. An array of characters is a list.
+/// A value, whose form follows its type: of a number or an enum of numbers a number, of a string
+/// its bytes, of an array or a struct a list. An array of characters is a list.
 #[derive(Clone, Copy, PartialEq, Eq)]
 pub enum Value {
     Number(i128),

@@ -1,4 +1,5 @@
-// What is decided while a program is judged: `static if`, `version`, `static foreach` and `static assert`, as nodes.
+// What is decided while a program is judged: `static if`, `version`, `static foreach` and `static
+// assert`, as nodes.
 use crate::flat::Flat;
 use crate::syntax::put;
 use crate::{Form, List, NameId, NodeId, StaticForeachNode, View, Want};

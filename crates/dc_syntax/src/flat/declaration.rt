@@ -15,7 +15,8 @@ fn view_in(section: Visibility) -> View {
     }
 }
 
-/// Who sees a declaration with these words before it, where it is otherwise seen as `view` says. The last word holds.
+/// Who sees a declaration with these words before it, where it is otherwise seen as `view` says.
+/// The last word holds.
 fn view_behind(attributes: &[Attribute], view: View) -> View {
     let mut view = view;
     for attribute in attributes {
@@ -37,7 +38,8 @@ impl Flat<'_> {
         self.list(nodes.as_slice())
     }
 
-    /// Appends the declarations of a list, or of a group, up to whose first section they are seen as `view` says.
+    /// Appends the declarations of a list, or of a group, up to whose first section they are seen
+    /// as `view` says.
     #[cycle(flat_declaration)]
     fn collect(
         &mut self,

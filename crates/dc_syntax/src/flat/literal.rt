@@ -22,7 +22,8 @@ fn integer_form(spelling: &[u8]) -> Form {
     }
 }
 
-/// The form of a character as it is written. The tokens of a text have characters of one byte alone.
+/// The form of a character as it is written. The tokens of a text have characters of one byte
+/// alone.
 fn character_form(spelling: &[u8]) -> Form {
     match character(spelling) {
         Some(byte) => Form::Char(byte),
@@ -37,7 +38,8 @@ impl Flat<'_> {
         Ok(Form::Str(bytes))
     }
 
-    /// The form of an expression without expressions or types inside. Others have none, and are read elsewhere.
+    /// The form of an expression without expressions or types inside. Others have none, and are
+    /// read elsewhere.
     pub(crate) fn leaf(&mut self, at: u32, kind: &ExprKind) -> Result<Form, Want> {
         match kind {
             ExprKind::Integer(spelling) => Ok(integer_form(spelling.as_slice())),

@@ -102,8 +102,8 @@ impl Flat<'_> {
         self.list(brackets.as_slice())
     }
 
-    /// A new array, and what is done to it. `new T[][n]` has the type `T[][]` and the length `n`, and so has
-    /// `new T[][](n)`.
+    /// A new array, and what is done to it. `new T[][n]` has the type `T[][]` and the length `n`,
+    /// and so has `new T[][](n)`.
     pub(crate) fn new_form(
         &mut self,
         at: u32,

@@ -3,10 +3,11 @@ use crate::flat::Flat;
 use crate::{List, Names, NodeId, Syntax, Want};
 use dc_ast::{Decls, Expr, ModuleTree, Stmts};
 
-/// Writes a module's declarations to the table, and gives the list of them: nodes of the form `Declared`.
+/// Writes a module's declarations to the table, and gives the list of them: nodes of the form
+/// `Declared`.
 ///
-/// Groups are inlined, and a section holds up to the end of its list or group. What is written before a declaration
-/// itself comes before both.
+/// Groups are inlined, and a section holds up to the end of its list or group. What is written
+/// before a declaration itself comes before both.
 pub fn flat_module(
     tree: &ModuleTree,
     syntax: &mut Syntax,
