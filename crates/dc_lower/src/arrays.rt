@@ -1,7 +1,7 @@
 // Arrays that are made, joined, extended and compared.
 use crate::lowering::Lowering;
 use crate::places::{Spot, load, place, store};
-use crate::sizes::{cells, element_cells, grows};
+use crate::sizes::{NESTED, cells, element_cells, grows};
 use crate::values::{operand, value};
 use dc_code::Op;
 use dc_syntax::{List, Want};
@@ -20,7 +20,7 @@ pub(crate) fn frame_slice(l: &mut Lowering, s: u32, n: u32) -> Result<u32, Want>
 fn start_data(l: &mut Lowering, pool: &Pool, array: TypeId, start: ValueId) -> Result<u32, Want> {
     let mut words = Vec::new(l.alloc);
     if let Some(item) = pool.types.element(pool.types.base(array)) {
-        crate::constants::program_words(l, pool, item, start, &mut words, 1000)?;
+        crate::constants::program_words(l, pool, item, start, &mut words, NESTED)?;
     }
     l.program.add_data(words.as_slice())
 }
@@ -378,7 +378,7 @@ fn same(
     l.at = tree.at;
     let all = l.temp(1);
     l.emit(Op::Const(all, 1))?;
-    same_parts(l, pool, of, x, y, all, 1000)?;
+    same_parts(l, pool, of, x, y, all, NESTED)?;
     l.copy(d, all, 1)?;
     if differs {
         l.emit(Op::Unary(UnOp::Not, Kind::Bool, d, d))?;

@@ -1,6 +1,6 @@
 // Constants.
 use crate::lowering::Lowering;
-use crate::sizes::{cells, element_cells};
+use crate::sizes::{NESTED, cells, element_cells};
 use dc_code::Op;
 use dc_run::DATA;
 use dc_syntax::Want;
@@ -149,11 +149,11 @@ pub(crate) fn constant(
         return Err(Want);
     }
     let base = pool.types.base(of);
-    if is_plain(pool, of, value, 1000) {
+    if is_plain(pool, of, value, NESTED) {
         let mut words = Vec::new(l.alloc);
         match pool.types.get(base) {
             Type::Slice(_) => words.extend_from_slice(&[0, 0, 0])?,
-            _ => program_words(l, pool, of, value, &mut words, 1000)?,
+            _ => program_words(l, pool, of, value, &mut words, NESTED)?,
         }
         return fixed_words(l, words.as_slice(), d);
     }
@@ -225,7 +225,7 @@ pub fn lower_global(
     value: ValueId,
 ) -> Result<(), Want> {
     let mut words = Vec::new(l.alloc);
-    program_words(l, pool, of, value, &mut words, 1000)?;
+    program_words(l, pool, of, value, &mut words, NESTED)?;
     let data = l.program.add_data(words.as_slice())?;
     l.program.set_global(g, data);
     Ok(())

@@ -1,6 +1,6 @@
 // Places.
 use crate::lowering::{Home, Lowering};
-use crate::sizes::{cells, element_cells, holds_fixed};
+use crate::sizes::{NESTED, cells, element_cells, holds_fixed};
 use crate::values::{is_still, operand, value};
 use dc_code::Op;
 use dc_syntax::Want;
@@ -144,7 +144,7 @@ fn temporary(
     let n = cells(pool, tree.of);
     let t = l.temp(n);
     value(l, pool, id, t, depth - 1)?;
-    if tree.own && holds_fixed(pool, tree.of, 1000) {
+    if tree.own && holds_fixed(pool, tree.of, NESTED) {
         l.at = tree.at;
         let p = l.temp(2);
         l.emit(Op::Own(p, n))?;

@@ -1,6 +1,9 @@
 // Words of types.
 use dc_tree::{Pool, Type, TypeId};
 
+/// How deep types and values may nest.
+pub(crate) const NESTED: u32 = 20_000;
+
 /// The words of a value of a type.
 pub fn cells(pool: &Pool, of: TypeId) -> u32 {
     let mut at = of;
@@ -69,7 +72,7 @@ pub(crate) fn holds_fixed(pool: &Pool, of: TypeId, depth: u32) -> bool {
 /// Whether arrays of such elements grow in place.
 pub(crate) fn grows(pool: &Pool, of: TypeId) -> bool {
     match pool.types.element(pool.types.base(of)) {
-        Some(item) => !holds_fixed(pool, item, 1000),
+        Some(item) => !holds_fixed(pool, item, NESTED),
         None => false,
     }
 }

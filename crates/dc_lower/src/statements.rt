@@ -1,7 +1,7 @@
 // Statements and bodies.
 use crate::lowering::{Entry, Home, Lowering};
 use crate::places::{address, place};
-use crate::sizes::{cells, element_cells, holds_fixed, result_cells};
+use crate::sizes::{NESTED, cells, element_cells, holds_fixed, result_cells};
 use crate::values::{effect, operand, value};
 use dc_code::Op;
 use dc_run::FnCode;
@@ -117,7 +117,7 @@ fn take_parameters(l: &mut Lowering, pool: &Pool, body: Body) -> Result<u32, Wan
 
 /// Whether a variable lives in a block of its own.
 fn is_own(pool: &Pool, variable: Variable) -> bool {
-    variable.own && !variable.is_ref && holds_fixed(pool, variable.of, 1000)
+    variable.own && !variable.is_ref && holds_fixed(pool, variable.of, NESTED)
 }
 
 /// A variable gets its block, with the words that stand in the frame.
@@ -506,7 +506,7 @@ fn label(l: &mut Lowering, pool: &Pool, tree: TreeId, s: u32, label: ValueId) ->
     let n = cells(pool, of);
     let v = l.temp(n);
     let t = l.temp(1);
-    crate::constants::constant(l, pool, of, label, v, 1000)?;
+    crate::constants::constant(l, pool, of, label, v, NESTED)?;
     match pool.types.kind(of) {
         Some(kind) => l.emit(Op::Compare(CmpOp::Equal, kind, t, s, v))?,
         None => l.emit(Op::Same(t, s, v, 1))?,

@@ -2,7 +2,7 @@
 use crate::constants::constant;
 use crate::lowering::{Home, Lowering};
 use crate::places::{Spot, address, load, place, store};
-use crate::sizes::{cells, element_cells, grows, result_cells};
+use crate::sizes::{NESTED, cells, element_cells, grows, result_cells};
 use dc_code::Op;
 use dc_syntax::Want;
 use dc_tree::{CallNode, Pool, Range, Tree, TreeForm, TreeId};
@@ -120,7 +120,7 @@ pub(crate) fn value(
     l.at = tree.at;
     let n = cells(pool, tree.of);
     match tree.form {
-        TreeForm::Const(v) | TreeForm::Start(v) => constant(l, pool, tree.of, v, d, 1000)?,
+        TreeForm::Const(v) | TreeForm::Start(v) => constant(l, pool, tree.of, v, d, NESTED)?,
         TreeForm::Local(_)
         | TreeForm::This
         | TreeForm::Global(_)

@@ -9,7 +9,7 @@ use dc_tree::{Tree, TreeForm, TreeId, Type, TypeId, Value, ValueId, Where};
 use dc_types::Kind;
 
 /// How deep literals may nest in what is converted.
-const NESTED: u32 = 1000;
+const NESTED: u32 = 20_000;
 
 /// The place of an expression that is refused.
 pub(crate) fn at_of(w: &World, tree: TreeId) -> Where {

@@ -11,7 +11,7 @@ use dc_types::Kind;
 pub const TYPE_CELLS: u64 = 1_048_576;
 
 /// How deep types may nest.
-const NESTED: u32 = 1000;
+const NESTED: u32 = 20_000;
 
 /// One less, or want of memory at 0.
 pub(crate) fn deeper(depth: u32) -> Result<u32, Stop>

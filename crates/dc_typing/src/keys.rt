@@ -8,7 +8,7 @@ use dc_types::Kind;
 pub(crate) const KEY_BYTES: usize = 16_384;
 
 /// How deep types and values may nest.
-const NESTED: u32 = 1000;
+const NESTED: u32 = 20_000;
 
 pub(crate) fn push_number(w: &World, n: i128, text: &mut Vec<u8>) -> Result<(), Stop> {
     let digits = n.to_string(w.alloc)?;

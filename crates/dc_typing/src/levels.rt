@@ -18,7 +18,7 @@ pub const CONVERTS: u8 = 1;
 pub const SAME: u8 = 2;
 
 /// How deep literals may nest in what is converted.
-const NESTED: u32 = 1000;
+const NESTED: u32 = 20_000;
 
 pub(crate) fn bits(kind: Kind) -> u32 {
     match kind {

@@ -5,7 +5,7 @@ use dc_model::{Arg, Stop, World};
 use dc_tree::{DeclId, Type, TypeId, UnitId, Value, ValueId};
 
 /// How deep types, values and instances may nest.
-const NESTED: u32 = 1000;
+const NESTED: u32 = 20_000;
 
 /// The text of a type (D specification, "Properties", "stringof").
 pub fn type_text(w: &mut World, of: TypeId) -> Result<Vec<u8>, Stop> {

@@ -64,7 +64,7 @@ pub struct Engine {
     stopped: Option<Unfinished>,
 }
 
-fn unfinished(stop: Stop) -> Unfinished {
+fn cause_of(stop: Stop) -> Unfinished {
     match stop {
         Stop::Failed(refused) => Unfinished::Refused(refused),
         Stop::Need(_, _) | Stop::NoMemory => Unfinished::NoMemory,
@@ -137,7 +137,7 @@ impl Engine {
 
     fn stop(&mut self, stop: Stop) {
         if self.stopped.is_none() {
-            self.stopped = Some(unfinished(stop));
+            self.stopped = Some(cause_of(stop));
         }
         self.ready.clear();
     }
@@ -427,7 +427,7 @@ impl Engine {
         }
         match self.ending() {
             Ok(main) => Ok(main),
-            Err(stop) => Err(unfinished(stop)),
+            Err(stop) => Err(cause_of(stop)),
         }
     }
 }
