@@ -13,6 +13,7 @@ mod run;
 mod text;
 mod told;
 mod top;
+mod way;
 mod words;
 
 pub use laws::{
@@ -20,3 +21,4 @@ pub use laws::{
     tokens_are_spelled,
 };
 pub use top::dpc;
+pub use way::{core_file, is_core};

@@ -3,14 +3,15 @@
 
 mod adapters;
 mod status;
+mod ways;
 
 use adapters::{FileLibrary, Writing};
-use dc_top::dpc;
 use dc_types::Status;
 use status::number_of;
 use std::alloc::{AllocError, Global};
 use std::env;
 use std::process::ExitCode;
+use ways::compile;
 
 /// The words after the program's name. Where one of them is no UTF-8 there are none.
 fn words(rt: &HostRuntime, alloc: Global) -> Result<Vec<String>, AllocError> {
@@ -32,7 +33,6 @@ fn main(rt: HostRuntime) -> ExitCode {
     let mut out = Writing::new(rt.stdout());
     let mut report = Writing::new(rt.stderr());
     let mut lib = FileLibrary::new(rt);
-    let mut probes = Vec::new(alloc);
-    let status = dpc(alloc, &words, &mut lib, &mut out, &mut report, &mut probes);
+    let status = compile(alloc, &words, &mut lib, &mut out, &mut report);
     ExitCode::from(number_of(status))
 }

@@ -2,9 +2,9 @@
 #![tactic(auto)]
 
 mod audit;
+mod command;
 mod load;
 mod made;
 mod run;
-mod whole;
 
-pub use whole::whole;
+pub use command::whole;

@@ -1,6 +1,6 @@
 // Commands over programs of the whole language.
 use crate::audit::audit;
-use crate::load::{Ended, Unread, elaborated, read_files};
+use crate::load::{Ended, Unread, elaborated, new_engine, read_files};
 use crate::made::{made_files, summary};
 use crate::run::{Told, run};
 use dc_demand::{Engine, Order};
@@ -27,7 +27,7 @@ enum Then {
     Audit,
 }
 
-fn told(status: Status, line: Text) -> Told {
+fn ended_so(status: Status, line: Text) -> Told {
     Told { status, line }
 }
 
@@ -47,7 +47,7 @@ fn audited<S: Sink>(engine: &mut Engine, out: &mut S) -> Result<Told, Want> {
     if lines.len() > 0 {
         status = after_put(out.put(lines.as_slice()), status);
     }
-    Ok(told(status, Text::new(engine.world.alloc)))
+    Ok(ended_so(status, Text::new(engine.world.alloc)))
 }
 
 /// Prints the summary of a program that is made, and runs it.
@@ -61,7 +61,7 @@ fn run_made<S: Sink>(
     for line in &summary(alloc, files)? {
         match after_put(out.put(line.as_bytes()), Status::Done) {
             Status::Done => {}
-            fault => return Ok(told(fault, Text::new(alloc))),
+            fault => return Ok(ended_so(fault, Text::new(alloc))),
         }
     }
     run(alloc, engine, main, MADE_TICKS, out)
@@ -83,18 +83,18 @@ fn perform<S: Sink>(
         Some(state) => Order::Mixed(state),
         None => Order::First,
     };
-    let (mut engine, ended) = elaborated(alloc, files, versions, order)?;
-    let main = match ended {
+    let mut engine = new_engine(alloc, versions)?;
+    let main = match elaborated(&mut engine, files, order)? {
         Ended::Program(main) => main,
         Ended::Refused(refused) => {
             let line = refused_line(&engine.world, &engine.mixed.texts, refused)?;
-            return Ok(told(Status::Refused, line));
+            return Ok(ended_so(Status::Refused, line));
         }
     };
     match then {
         Then::Run(ticks) => run(alloc, &mut engine, main, ticks, out),
         Then::RunMade => run_made(&mut engine, main, files, out),
-        Then::Nothing => Ok(told(Status::Done, Text::new(alloc))),
+        Then::Nothing => Ok(ended_so(Status::Done, Text::new(alloc))),
         Then::Audit => audited(&mut engine, out),
     }
 }
@@ -113,7 +113,7 @@ fn perform_read<L: Library, S: Sink>(
         Err(Unread::Failed(n)) => match words.paths.get(n) {
             Some(path) => {
                 let line = read_fault_line(alloc, path.as_bytes())?;
-                Ok(told(Status::ReadFault, line))
+                Ok(ended_so(Status::ReadFault, line))
             }
             None => Err(Want),
         },
@@ -134,7 +134,7 @@ fn perform_job<L: Library, S: Sink>(
             let files = made_files(alloc, n)?;
             perform(alloc, files.as_slice(), None, Then::RunMade, out)
         }
-        None => Ok(told(Status::Usage, Text::copy_of(alloc, usage_line())?)),
+        None => Ok(ended_so(Status::Usage, Text::copy_of(alloc, usage_line())?)),
     }
 }
 

@@ -64,27 +64,31 @@ fn add_versions(w: &mut World, names: Option<&[u8]>) -> Result<(), Want> {
     Ok(())
 }
 
+/// An engine that knows nothing of a program but the names for which a `version` holds.
+pub(crate) fn new_engine(alloc: Global, versions: Option<&[u8]>) -> Result<Engine, Want> {
+    let mut world = World::new(alloc)?;
+    add_versions(&mut world, versions)?;
+    Ok(Engine::new(world, Texts::new(alloc)))
+}
+
+/// Reads the files as modules, with which the engine starts; or the first refusal.
+fn start(engine: &mut Engine, files: &[File]) -> Result<(), Stop> {
+    let modules = read_modules(&mut engine.world, &mut engine.mixed.texts, files)?;
+    engine.start(modules.as_slice());
+    Ok(())
+}
+
 /// Elaborates the program of these files in an order of steps. The engine keeps all that is known
 /// of it.
-pub(crate) fn elaborated(
-    alloc: Global,
-    files: &[File],
-    versions: Option<&[u8]>,
-    order: Order,
-) -> Result<(Engine, Ended), Want> {
-    let mut world = World::new(alloc)?;
-    let mut texts = Texts::new(alloc);
-    add_versions(&mut world, versions)?;
-    let read = read_modules(&mut world, &mut texts, files);
-    let mut engine = Engine::new(world, texts);
-    match read {
-        Ok(modules) => engine.start(modules.as_slice()),
-        Err(Stop::Failed(refused)) => return Ok((engine, Ended::Refused(refused))),
+pub(crate) fn elaborated(engine: &mut Engine, files: &[File], order: Order) -> Result<Ended, Want> {
+    match start(engine, files) {
+        Ok(()) => {}
+        Err(Stop::Failed(refused)) => return Ok(Ended::Refused(refused)),
         Err(_) => return Err(Want),
     }
-    match elaborate(&mut engine, order) {
-        Ok(main) => Ok((engine, Ended::Program(main))),
-        Err(Unfinished::Refused(refused)) => Ok((engine, Ended::Refused(refused))),
+    match elaborate(engine, order) {
+        Ok(main) => Ok(Ended::Program(main)),
+        Err(Unfinished::Refused(refused)) => Ok(Ended::Refused(refused)),
         Err(Unfinished::NoMemory) => Err(Want),
     }
 }

@@ -16,7 +16,7 @@ struct Evaluated {
 }
 
 /// The evaluation that a question asks for.
-fn evaluated(question: Question, answer: Answer) -> Option<Evaluated> {
+fn evaluation_of(question: Question, answer: Answer) -> Option<Evaluated> {
     match (question.ask, answer) {
         (Ask::Eval, Answer::Value(of, value)) => Some(Evaluated {
             at: question.at,
@@ -50,7 +50,7 @@ pub(crate) fn audit(engine: &mut Engine) -> Result<Text, Want> {
         if engine.world.placed.contains_key(&question.at) {
             continue;
         }
-        if let Some(one) = evaluated(*question, *answer) {
+        if let Some(one) = evaluation_of(*question, *answer) {
             all.push(one)?;
         }
     }
