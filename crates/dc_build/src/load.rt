@@ -1,4 +1,7 @@
 // The files of a job, and the program that they make.
+ghost use Rattle.std.specs.Prelude.{◌≡◌, IsSome, Some};
+ghost use Rattle.dc_edge.specs.Causes.{CountsFaults};
+
 use dc_demand::{Engine, Order, Unfinished, elaborate};
 use dc_edge::{LibFault, Library};
 use dc_model::{Refused, Stop, World};
@@ -9,35 +12,48 @@ use dc_types::{File, Text};
 use dc_words::{first_version, later_versions};
 use std::alloc::Global;
 
-/// Why there are no files.
-#[derive(Clone, Copy)]
-pub(crate) enum Unread {
-    /// The read of the path with this number failed.
-    Failed(usize),
-    NoMemory,
+/// The files that were read, up to the first that can't be, and why that can't.
+#[derive(Drop)]
+pub(crate) struct Reading {
+    pub files: Vec<File>,
+    pub fault: Option<LibFault>,
+}
+
+/// A file with its path.
+fn file_of(alloc: Global, path: &[u8], bytes: Text) -> Result<File, Want> {
+    Ok(File {
+        path: Text::copy_of(alloc, path)?,
+        bytes,
+    })
+}
+
+/// Adds a file, unless memory is refused.
+fn add_file(files: &mut Vec<File>, alloc: Global, path: &[u8], bytes: Text) -> Result<(), Want> {
+    let file = file_of(alloc, path, bytes)?;
+    files.push(file)?;
+    Ok(())
 }
 
 /// Reads files in their order, up to the first that can't be read.
-pub(crate) fn read_files<L: Library>(
-    alloc: Global,
-    paths: &[String],
-    lib: &mut L,
-) -> Result<Vec<File>, Unread> {
+pub(crate) fn read_files<L: Library>(alloc: Global, paths: &[String], lib: &mut L) -> Reading
+    ensures cause { CountsFaults (L.faults lib.old) (L.faults lib.new) (result.fault ≡ Some LibFault.Failed) }
+    ensures missing { result.fault ≡ Some LibFault.Missing → IsSome (L.told lib.old) }
+    ensures told { L.told lib.new ≡ L.told lib.old }
+{
     let mut files = Vec::new(alloc);
-    for (n, path) in paths.iter().enumerate() {
-        let bytes = match lib.read(alloc, path.as_bytes()) {
-            Ok(bytes) => bytes,
-            Err(LibFault::NoMemory) => return Err(Unread::NoMemory),
-            Err(LibFault::Failed | LibFault::Missing) => return Err(Unread::Failed(n)),
+    for path in paths {
+        let fault = match lib.read(alloc, path.as_bytes()) {
+            Ok(bytes) => match add_file(&mut files, alloc, path.as_bytes(), bytes) {
+                Ok(()) => None,
+                Err(Want) => Some(LibFault::NoMemory),
+            },
+            Err(fault) => Some(fault),
         };
-        let Ok(path) = Text::copy_of(alloc, path.as_bytes()) else {
-            return Err(Unread::NoMemory);
-        };
-        if files.push(File { path, bytes }).is_err() {
-            return Err(Unread::NoMemory);
+        if fault.is_some() {
+            return Reading { files, fault };
         }
     }
-    Ok(files)
+    Reading { files, fault: None }
 }
 
 /// What elaborating a program has come to.

@@ -1,7 +1,12 @@
 // The run of a program's `main`.
+ghost use Rattle.std.specs.Prelude.{IfOk};
+ghost use Rattle.std.specs.Result.{IsErrOf};
+ghost use Rattle.dc_edge.specs.Causes.{CountsFaults};
+ghost use Rattle.dc_build.specs.Ends.{IsCalm};
+
 use dc_decl::initial_value;
 use dc_demand::Engine;
-use dc_edge::Sink;
+use dc_edge::{Sink, SinkFault};
 use dc_lower::{lower_body, lower_global, lower_start};
 use dc_report::{bound_line, ended_line, trap_line};
 use dc_run::{Exit, Machine};
@@ -23,7 +28,6 @@ enum Ending {
     Number(i64),
     Trapped(TrapKind, Where),
     Bound,
-    WriteFault,
 }
 
 /// A status, and the line of the report: nothing where it is empty.
@@ -62,13 +66,8 @@ fn gives_number(engine: &Engine, main: DeclId) -> bool {
     }
 }
 
-/// Runs `main` in at most so many ticks. Code is made of a function when it is entered first.
-fn run_main<S: Sink>(
-    engine: &mut Engine,
-    main: DeclId,
-    ticks: u64,
-    out: &mut S,
-) -> Result<Ending, Want> {
+/// The machine before the start of `main`.
+fn started(engine: &mut Engine, main: DeclId, ticks: u64) -> Result<Machine, Want> {
     let limits = Limits {
         ticks,
         cells: CELLS,
@@ -78,37 +77,68 @@ fn run_main<S: Sink>(
     let start = lower_start(&mut engine.lowering, &engine.world.pool, main)?;
     let mut machine = Machine::open(engine.world.alloc, limits, true);
     machine.enter(start.first, start.frame)?;
-    for _ in 0..u64::MAX {
-        match machine.run(&engine.lowering.program, out) {
-            Exit::Returned if gives_number(engine, main) => {
-                return Ok(Ending::Number(machine.word(0).cast_signed()));
-            }
-            Exit::Returned => return Ok(Ending::Number(0)),
-            Exit::Trapped(kind, at) => return Ok(Ending::Trapped(kind, at)),
-            Exit::Bound => return Ok(Ending::Bound),
-            Exit::WriteFault => return Ok(Ending::WriteFault),
-            Exit::Absent(function) => add_function(engine, function)?,
-            Exit::Unset(variable) => add_global(engine, variable)?,
-            Exit::Printing(_, _) | Exit::Shared(_, _) | Exit::NoMemory => return Err(Want),
-        }
-    }
-    Err(Want)
+    Ok(machine)
 }
 
-/// Runs a program, and says how that ended.
-pub(crate) fn run<S: Sink>(
-    alloc: Global,
+/// What a run that stopped has come to, where it isn't to go on. What it wants comes into the
+/// program.
+fn ending_of(
+    engine: &mut Engine,
+    machine: &Machine,
+    main: DeclId,
+    exit: Exit,
+) -> Result<Option<Ending>, Want> {
+    match exit {
+        Exit::Returned if gives_number(engine, main) => {
+            Ok(Some(Ending::Number(machine.word(0).cast_signed())))
+        }
+        Exit::Returned => Ok(Some(Ending::Number(0))),
+        Exit::Trapped(kind, at) => Ok(Some(Ending::Trapped(kind, at))),
+        Exit::Bound => Ok(Some(Ending::Bound)),
+        Exit::Absent(function) => {
+            add_function(engine, function)?;
+            Ok(None)
+        }
+        Exit::Unset(variable) => {
+            add_global(engine, variable)?;
+            Ok(None)
+        }
+        Exit::Printing(_, _) | Exit::Shared(_, _) | Exit::NoMemory => Err(Want),
+    }
+}
+
+/// Runs `main` in at most so many ticks. Code is made of a function when it is entered first.
+/// `Failed` comes where a put failed, after which nothing more is put.
+fn run_main<S: Sink>(
     engine: &mut Engine,
     main: DeclId,
     ticks: u64,
     out: &mut S,
-) -> Result<Told, Want> {
-    let ending = run_main(engine, main, ticks, out)?;
-    let empty = Text::new(alloc);
+) -> Result<Ending, SinkFault>
+    ensures cause { CountsFaults (S.faults out.old) (S.faults out.new) (IsErrOf result SinkFault.Failed) }
+{
+    let Ok(mut machine) = started(engine, main, ticks) else {
+        return Err(SinkFault::NoMemory);
+    };
+    for _ in 0..u64::MAX {
+        let exit = machine.run(&engine.lowering.program, out)?;
+        match ending_of(engine, &machine, main, exit) {
+            Ok(None) => {}
+            Ok(Some(ending)) => return Ok(ending),
+            Err(Want) => return Err(SinkFault::NoMemory),
+        }
+    }
+    Err(SinkFault::NoMemory)
+}
+
+/// Says how a run ended.
+fn tell(alloc: Global, engine: &mut Engine, ticks: u64, ending: Ending) -> Result<Told, Want>
+    ensures calm { IfOk result (λ t. IsCalm t.status) }
+{
     Ok(match ending {
         Ending::Number(0) => Told {
             status: Status::Done,
-            line: empty,
+            line: Text::new(alloc),
         },
         Ending::Number(number) => Told {
             status: Status::EndedWith,
@@ -125,9 +155,24 @@ pub(crate) fn run<S: Sink>(
             status: Status::Bound,
             line: bound_line(alloc, ticks)?,
         },
-        Ending::WriteFault => Told {
-            status: Status::WriteFault,
-            line: empty,
-        },
     })
+}
+
+/// Runs a program, and says how that ended. `Failed` comes where a put failed, after which nothing
+/// more is put.
+pub(crate) fn run<S: Sink>(
+    alloc: Global,
+    engine: &mut Engine,
+    main: DeclId,
+    ticks: u64,
+    out: &mut S,
+) -> Result<Told, SinkFault>
+    ensures cause { CountsFaults (S.faults out.old) (S.faults out.new) (IsErrOf result SinkFault.Failed) }
+    ensures calm { IfOk result (λ t. IsCalm t.status) }
+{
+    let ending = run_main(engine, main, ticks, out)?;
+    match tell(alloc, engine, ticks, ending) {
+        Ok(told) => Ok(told),
+        Err(Want) => Err(SinkFault::NoMemory),
+    }
 }

@@ -99,7 +99,10 @@ impl Evaluation {
     /// Goes on until the value is there, a rule is broken or something is wanted.
     pub fn go(&mut self, w: &mut World, l: &mut Lowering) -> Result<Went, Want> {
         for _ in 0..u64::MAX {
-            match self.machine.run(&l.program, &mut self.sink) {
+            let Ok(exit) = self.machine.run(&l.program, &mut self.sink) else {
+                return Err(Want);
+            };
+            match exit {
                 Exit::Absent(f) => {
                     let Some(decl) = l.function_decl(f) else {
                         return Err(Want);
@@ -133,7 +136,7 @@ impl Evaluation {
                 Ok(Went::Stopped(15, at, Some(name)))
             }
             Exit::Shared(at, g) => Ok(Went::Stopped(15, at, name_of(w, l, g))),
-            Exit::Absent(_) | Exit::WriteFault | Exit::NoMemory => Err(Want),
+            Exit::Absent(_) | Exit::NoMemory => Err(Want),
         }
     }
 }

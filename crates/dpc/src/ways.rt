@@ -1,49 +1,58 @@
 // The two ways of a job.
+ghost use Rattle.std.specs.Prelude.{◌≡◌, ◌⊎◌, IfOk};
+ghost use Rattle.dc_edge.specs.Causes.{CountsFaults, Rose};
+ghost use Rattle.dc_build.specs.Ends.{IsOrFails};
+
 use dc_build::whole;
-use dc_edge::{LibFault, Library, Sink, SoundLibrary};
+use dc_edge::{LibFault, Library, Sink, SinkFault, SoundLibrary};
+use dc_report::read_fault_line;
 use dc_top::{core_file, dpc, is_core};
 use dc_types::{File, Files, NoMemory, Status, Text};
 use std::alloc::Global;
 
-/// The file at a path, or none where it can't be read.
-fn read_file<L: Library>(alloc: Global, path: &[u8], lib: &mut L) -> Result<Files, NoMemory> {
-    let mut files = Files::new(alloc);
-    match lib.read(alloc, path) {
-        Ok(bytes) => files.push(File {
-            path: Text::copy_of(alloc, path)?,
-            bytes,
-        })?,
-        Err(LibFault::NoMemory) => return Err(NoMemory),
-        Err(LibFault::Failed | LibFault::Missing) => {}
+/// Tells that a file can't be read.
+fn report_unread<R: Sink>(alloc: Global, path: &[u8], report: &mut R) -> Status
+    ensures cause { CountsFaults (R.faults report.old) (R.faults report.new) (result ≡ Status.WriteFault) }
+    ensures same { IsOrFails Status.ReadFault result }
+{
+    let Ok(line) = read_fault_line(alloc, path) else {
+        return Status::NoMemory;
+    };
+    match report.put(line.as_slice()) {
+        Ok(()) => Status::ReadFault,
+        Err(SinkFault::Failed) => Status::WriteFault,
+        Err(SinkFault::NoMemory) => Status::NoMemory,
     }
+}
+
+/// A file alone.
+fn one_file(alloc: Global, path: &[u8], bytes: Text) -> Result<Files, NoMemory> {
+    let mut files = Files::new(alloc);
+    files.push(File {
+        path: Text::copy_of(alloc, path)?,
+        bytes,
+    })?;
     Ok(files)
 }
 
-/// Whether the file, where there is one, is of the core.
-fn are_core(alloc: Global, files: &Files) -> Result<bool, NoMemory> {
-    match files.as_slice() {
-        [file] => is_core(alloc, file.path.as_slice(), &file.bytes),
-        _ => Ok(true),
-    }
-}
-
-/// Does what the words after the program's name say. A job about one file that is of the core is
-/// done by `dpc`, of which all is proved; every other job is done by the way of the whole language.
-/// A file is read once.
-pub(crate) fn compile<L: Library, S: Sink, R: Sink>(
+/// Does a job about one file with this text: by `dpc`, of which all is proved, where it is of the
+/// core, and else by the way of the whole language.
+fn compile_one<S: Sink, R: Sink>(
     alloc: Global,
     words: &Vec<String>,
-    lib: &mut L,
+    path: &[u8],
+    text: Text,
     out: &mut S,
     report: &mut R,
-) -> Status {
-    let Some(path) = core_file(words) else {
-        return whole(alloc, words.as_slice(), lib, out, report);
-    };
-    let Ok(files) = read_file(alloc, path, lib) else {
+) -> Status
+    ensures write_fault { result ≡ Status.WriteFault → Rose (S.faults out.old) (S.faults out.new) ⊎ Rose (R.faults report.old) (R.faults report.new) }
+    ensures out_counted { (S.faults out.new ≡ S.faults out.old → ⊥) → result ≡ Status.WriteFault }
+    ensures report_counted { (R.faults report.new ≡ R.faults report.old → ⊥) → result ≡ Status.WriteFault }
+{
+    let Ok(is_core) = is_core(alloc, path, &text) else {
         return Status::NoMemory;
     };
-    let Ok(is_core) = are_core(alloc, &files) else {
+    let Ok(files) = one_file(alloc, path, text) else {
         return Status::NoMemory;
     };
     let mut known = SoundLibrary { files };
@@ -52,5 +61,31 @@ pub(crate) fn compile<L: Library, S: Sink, R: Sink>(
         dpc(alloc, words, &mut known, out, report, &mut probes)
     } else {
         whole(alloc, words.as_slice(), &mut known, out, report)
+    }
+}
+
+/// Does what the words after the program's name say. A job about one file that is of the core is
+/// done by `dpc`; every other job is done by the way of the whole language. A file is read once.
+pub(crate) fn compile<L: Library, S: Sink, R: Sink>(
+    alloc: Global,
+    words: &Vec<String>,
+    lib: &mut L,
+    out: &mut S,
+    report: &mut R,
+) -> Status
+    // A write fault comes only where a put failed in this call, and there it comes.
+    ensures write_fault { result ≡ Status.WriteFault → Rose (S.faults out.old) (S.faults out.new) ⊎ Rose (R.faults report.old) (R.faults report.new) }
+    ensures out_counted { (S.faults out.new ≡ S.faults out.old → ⊥) → result ≡ Status.WriteFault }
+    ensures report_counted { (R.faults report.new ≡ R.faults report.old → ⊥) → result ≡ Status.WriteFault }
+    // Where a read failed in this call, the status is that of a read fault, unless a put failed or memory was wanted.
+    ensures lib_counted { (L.faults lib.new ≡ L.faults lib.old → ⊥) → IsOrFails Status.ReadFault result }
+{
+    let Some(path) = core_file(words) else {
+        return whole(alloc, words.as_slice(), lib, out, report);
+    };
+    match lib.read(alloc, path) {
+        Ok(text) => compile_one(alloc, words, path, text, out, report),
+        Err(LibFault::NoMemory) => Status::NoMemory,
+        Err(LibFault::Failed | LibFault::Missing) => report_unread(alloc, path, report),
     }
 }
