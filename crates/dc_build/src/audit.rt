@@ -1,11 +1,11 @@
 // The values of evaluations, as lines.
 use dc_demand::Engine;
 use dc_model::{Answer, Ask, Question, Stop};
+use dc_names::value_text;
 use dc_report::append_place;
 use dc_syntax::Want;
 use dc_tree::{PlaceId, TypeId, ValueId};
 use dc_types::Text;
-use dc_typing::value_text;
 
 /// An evaluation with its value.
 #[derive(Clone, Copy)]

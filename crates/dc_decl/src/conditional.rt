@@ -3,9 +3,10 @@ use crate::DEEP;
 use crate::standing::at_node;
 use dc_convert::common;
 use dc_model::{Env, Stop, Symbol, World};
+use dc_names::Want;
 use dc_syntax::{Form, NodeId, StaticForeachNode};
 use dc_tree::{Type, TypeId, Value, ValueId, Where};
-use dc_typing::{Want, all_members, evaluate};
+use dc_typing::{all_members, evaluate};
 
 /// Whether a condition holds.
 pub fn holds_condition(w: &mut World, env: Env, n: NodeId) -> Result<bool, Stop> {

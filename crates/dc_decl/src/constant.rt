@@ -1,10 +1,12 @@
 // Manifest constants and initialisers (D specification, "Enums", "Manifest Constants").
 use crate::DEEP;
 use crate::standing::{at_node, value_of};
+use dc_facts::{check_cells, decl_env, start_value, variable_type};
 use dc_model::{Env, Stop, Symbol, World};
+use dc_names::Want;
 use dc_syntax::Form;
 use dc_tree::{DeclId, TypeId, ValueId};
-use dc_typing::{Want, check_cells, decl_env, evaluate, judge_type, start_value, variable_type};
+use dc_typing::{evaluate, judge_type};
 
 /// The value of `enum T name = value;`
 pub(crate) fn judge_constant(w: &mut World, env: Env, n: u32) -> Result<Symbol, Stop> {
@@ -34,7 +36,7 @@ pub(crate) fn judge_constant(w: &mut World, env: Env, n: u32) -> Result<Symbol, 
 pub fn initial_value(w: &mut World, id: DeclId) -> Result<ValueId, Stop> {
     let of = variable_type(w, id)?;
     let decl = w.decl(id)?;
-    if dc_typing::this_unit(w, decl.unit)? != Some(decl.unit) {
+    if dc_facts::this_unit(w, decl.unit)? != Some(decl.unit) {
         check_cells(w, of, decl.at)?;
     }
     start_of(w, id, of)

@@ -1,10 +1,12 @@
 // Enums and their members (D specification, "Enums").
 use crate::DEEP;
 use crate::standing::at_node;
+use dc_facts::{decl_env, start_value, symbol_of};
 use dc_model::{Decl, Env, Stop, Symbol, World};
+use dc_names::Want;
 use dc_syntax::{EnumNode, Form, NodeId};
 use dc_tree::{DeclId, Range, Type, TypeId, Where};
-use dc_typing::{Want, decl_env, evaluate, judge, judge_type, start_value, symbol_of};
+use dc_typing::{evaluate, judge, judge_type};
 
 /// Where the initialisers of an enum's members are judged: its members are names there.
 pub fn member_env(w: &mut World, env: Env, id: DeclId) -> Result<Env, Stop> {

@@ -1,8 +1,9 @@
 // The fields of structs (D specification, "Structs and Unions", "Struct Layout").
 use crate::constant::start_of;
+use dc_facts::{TYPE_CELLS, cells, check_cells, variable_type};
 use dc_model::{DeclKind, Stop, World};
+use dc_names::settled;
 use dc_tree::{Field, UnitId};
-use dc_typing::{TYPE_CELLS, cells, check_cells, settled, variable_type};
 
 /// Judges the fields of a struct in text order, and keeps its layout.
 pub fn judge_layout(w: &mut World, unit: UnitId) -> Result<(), Stop> {

@@ -1,10 +1,11 @@
 // What functions take and give (D specification, "Functions").
 use crate::DEEP;
 use crate::standing::at_node;
+use dc_facts::{decl_env, place_of};
 use dc_model::{Answer, Ask, DeclKind, Question, Stop, Work, World};
 use dc_syntax::{Form, FunctionNode};
 use dc_tree::{DeclId, Signature, Taken, TypeId};
-use dc_typing::{decl_env, judge_type, parameters, place_of};
+use dc_typing::{judge_type, parameters};
 
 fn function_of(w: &World, id: DeclId) -> Result<FunctionNode, Stop> {
     match w.pool.syntax.node(w.decl(id)?.node).form {

@@ -2,10 +2,12 @@
 use crate::DEEP;
 use crate::constant::judge_constant;
 use crate::enumeration::{judge_enum, judge_member};
+use dc_facts::decl_env;
 use dc_model::{DeclKind, Env, Stop, Symbol, World};
+use dc_names::check_storage;
 use dc_syntax::{Form, NodeId, VariableNode};
 use dc_tree::{DeclId, Type, TypeId, Where};
-use dc_typing::{check_storage, decl_env, judge, judge_type, resolve};
+use dc_typing::{judge, judge_type, resolve};
 
 /// What a declaration stands for; of a variable or a field its type.
 pub fn judge_symbol(w: &mut World, id: DeclId) -> Result<Symbol, Stop> {
@@ -40,7 +42,7 @@ pub fn judge_symbol(w: &mut World, id: DeclId) -> Result<Symbol, Stop> {
 /// What an alias stands for (D specification, "Declarations", "Alias Declaration").
 pub fn alias_target(w: &mut World, env: Env, target: NodeId) -> Result<Symbol, Stop> {
     let found = resolve(w, env, target, DEEP)?;
-    let symbol = dc_typing::package_end(w, env, found.symbol)?;
+    let symbol = dc_names::package_end(w, env, found.symbol)?;
     match symbol {
         Symbol::Tree(_) | Symbol::Package(_) | Symbol::Method(_, _) => {
             w.refuse(10, found.name_at, None)

@@ -3,15 +3,15 @@ use crate::instances::name_unit;
 use crate::settling::{Settled, introduce_mixed, introduce_outcome, judge_cond};
 use dc_ctfe::{Evaluation, Went};
 use dc_decl::{DEEP, holds_condition, initial_value, judge_layout, judge_signature, judge_symbol};
+use dc_facts::{decl_env, unit_env, variable_type};
 use dc_lower::{Lowering, lower_global};
 use dc_model::{Answer, Ask, Decl, DeclKind, Env, Question, Stop, Symbol, Work, World};
+use dc_names::{constraint_of, evaluated, guarded, text_of};
 use dc_stmt::{BodyWork, judge_body, open_body, settle_local};
 use dc_syntax::Form;
 use dc_text::{Texts, mixed_declarations, mixed_expression, mixed_statements};
 use dc_tree::{DeclId, TreeId, TypeId, UnitId, ValueId, Where};
-use dc_typing::{
-    condition, constraint_of, decl_env, evaluated, guarded, text_of, unit_env, variable_type,
-};
+use dc_typing::condition;
 
 /// The most bytes of all mixins' texts.
 const MIXIN_BYTES: u64 = 16_777_216;

@@ -2,10 +2,12 @@
 use crate::breaks::Breaks;
 use crate::introduce::{Into, Introduced, NESTED, introduce, link_conds, link_items};
 use dc_decl::{holds_condition, rounds_of};
+use dc_facts::unit_env;
 use dc_model::{Answer, Ask, Bind, Cond, CondId, ItemKind, Question, Stop, Symbol, Work, World};
+use dc_names::settled;
 use dc_syntax::{Form, List, StaticForeachNode};
 use dc_tree::{PlaceStep, SpotId, ValueId};
-use dc_typing::{mixin_text, settled, unit_env};
+use dc_typing::mixin_text;
 
 /// What a conditional comes to; a mixin needs its text read.
 #[derive(Clone, Copy)]

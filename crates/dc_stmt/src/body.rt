@@ -2,10 +2,11 @@
 use crate::statements::{Context, statement};
 use crate::weights::weigh;
 use dc_decl::DEEP;
+use dc_facts::{check_cells, decl_env, place_of, signature_of, this_of};
 use dc_model::{BlockId, Env, Stop, Symbol, World};
 use dc_syntax::{Form, FunctionNode, List};
 use dc_tree::{Body, DeclId, StmtForm, Taken, TypeId, Variable};
-use dc_typing::{check_cells, decl_env, parameters, place_of, signature_of, this_of};
+use dc_typing::parameters;
 
 /// The greatest weight of a function.
 const WEIGHT: u64 = 4_194_304;
@@ -149,7 +150,7 @@ fn body_weight(w: &mut World, work: &BodyWork, block: dc_tree::StmtId) -> Result
         let own = if variable.is_ref {
             2
         } else {
-            dc_typing::cells(w, variable.of)?
+            dc_facts::cells(w, variable.of)?
         };
         sum = sum.saturating_add(own).saturating_add(4);
     }

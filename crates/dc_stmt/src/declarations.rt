@@ -1,13 +1,13 @@
 // Declarations in bodies (D specification, "Declarations").
 use crate::statements::{Judged, NOTHING, here, made};
 use dc_decl::{alias_target, check_auto};
+use dc_facts::{check_cells, start_value, symbol_of};
+use dc_form::coerce;
 use dc_model::{BlockId, Decl, DeclKind, Env, Import, ImportForm, Row, Stop, Symbol, World};
+use dc_names::{Want, check_storage};
 use dc_syntax::{Form, ItemNode, NameId, NodeId, VariableNode};
 use dc_tree::{DeclId, StmtForm, Tree, TreeForm, TreeId, TypeId, VarId, Variable, Where};
-use dc_typing::{
-    Want, check_cells, check_storage, coerce, evaluate, judge, judge_to, judge_type, start_value,
-    symbol_of,
-};
+use dc_typing::{evaluate, judge, judge_to, judge_type};
 
 /// Refuses a name that another local of the function has.
 fn check_new(w: &mut World, env: Env, name: NameId, at: Where) -> Result<BlockId, Stop> {

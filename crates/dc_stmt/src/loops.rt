@@ -2,11 +2,12 @@
 use crate::declarations::declare_variable;
 use crate::statements::{Context, Judged, deeper, here, inner, made, scoped, statement};
 use dc_convert::common;
+use dc_form::{NONE, Source, coerce, level};
 use dc_model::{Env, Flow, FlowId, FlowKind, Stop, World};
 use dc_syntax::{ForeachNode, Form, LoopNode, NodeId};
 use dc_tree::{StmtForm, Tree, TreeForm, TreeId, TypeId, VarId, Variable, WalkNode, Where};
 use dc_types::Kind;
-use dc_typing::{NONE, Source, coerce, condition, judge, judge_to, judge_type, level};
+use dc_typing::{condition, judge, judge_to, judge_type};
 
 /// A loop that is open around what stands in it.
 fn opened(w: &mut World, env: Env) -> Result<(Env, FlowId), Stop> {

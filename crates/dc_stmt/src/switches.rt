@@ -2,9 +2,10 @@
 use crate::loops::is_left;
 use crate::statements::{Context, Judged, block, deeper, here, made, scoped};
 use dc_model::{Env, Flow, FlowKind, Stop, World};
+use dc_names::Want;
 use dc_syntax::{Form, List, NodeId};
 use dc_tree::{CaseNode, StmtForm, StmtId, TreeId, TypeId, Value, ValueId, Where};
-use dc_typing::{Want, evaluate, judge};
+use dc_typing::{evaluate, judge};
 
 /// Whether a type can be that of a `switch`: a number but `bool`, an enum of numbers or strings, or `string`.
 fn is_switchable(w: &World, of: TypeId) -> bool {

@@ -1,7 +1,7 @@
 // What a body weighs: the words of its frame that calls count.
+use dc_facts::{cells, push_parts};
 use dc_model::{Stop, World};
 use dc_tree::{StmtForm, StmtId, TreeForm, TreeId, VarId};
-use dc_typing::{cells, push_parts};
 
 /// What is still to be weighed.
 #[derive(Drop)]

@@ -1,14 +1,14 @@
 // Calls (D specification, "Expressions", "Function Calls"; "Functions", "Uniform Function Call Syntax").
-use crate::conversion::{coerce, convert, own};
 use crate::expression::{judge, judge_to};
-use crate::facts::{deeper, fields_of, signature_of, this_unit};
-use crate::make::{add, aggregate, constant};
-use crate::names::{Sought, finished, look, named, package_end, qualified, rows_symbol_within};
 use crate::overloads::{Chosen, choose};
-use crate::resolution::{Resolved, applied, here, resolve, sought_of};
-use crate::templates::name_instance;
-use crate::values::{implicit_this, value};
+use crate::resolution::{applied, resolve};
+use dc_facts::{deeper, fields_of, signature_of, this_unit};
+use dc_form::{add, aggregate, coerce, constant, convert, own};
 use dc_model::{DeclKind, Env, Lookup, SetId, Stop, Symbol, World};
+use dc_names::{
+    Resolved, Sought, finished, here, implicit_this, look, name_instance, named, package_end,
+    qualified, rows_symbol_within, sought_of, value,
+};
 use dc_syntax::{List, NodeId};
 use dc_tree::{CallNode, DeclId, Taken, TreeForm, TreeId, Type, TypeId, UnitId, Where};
 
@@ -295,7 +295,7 @@ fn builtin(w: &mut World, decl: DeclId, args: &[TreeId], at: Where) -> Result<Tr
 }
 
 /// Whether a declaration is one of the built-in functions.
-pub(crate) fn is_builtin(w: &World, decl: DeclId) -> Result<bool, Stop> {
+fn is_builtin(w: &World, decl: DeclId) -> Result<bool, Stop> {
     Ok(w.decl(decl)?.kind == DeclKind::Builtin)
 }
 
@@ -331,6 +331,6 @@ fn construct(
 }
 
 /// An argument as one of a type, or rule 10 where it stands.
-pub fn converted(w: &mut World, tree: TreeId, to: TypeId, at: Where) -> Result<TreeId, Stop> {
+fn converted(w: &mut World, tree: TreeId, to: TypeId, at: Where) -> Result<TreeId, Stop> {
     convert(w, tree, to, at)
 }

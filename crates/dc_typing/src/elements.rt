@@ -1,11 +1,9 @@
 // Elements and parts of arrays (D specification, "Arrays", "Indexing" and "Slicing").
-use crate::conversion::{as_kind, own, slice_of, whole};
 use crate::expression::judge;
-use crate::facts::deeper;
-use crate::make::bare;
-use crate::resolution::{Resolved, here};
-use crate::values::value;
+use dc_facts::deeper;
+use dc_form::{as_kind, bare, own, slice_of, whole};
 use dc_model::{Env, Stop, Symbol, World};
+use dc_names::{Resolved, here, value};
 use dc_syntax::NodeId;
 use dc_tree::{Tree, TreeForm, TreeId, TypeId, VarId, Variable, Where};
 use dc_types::Kind;

@@ -1,17 +1,16 @@
 // Judging expressions (D specification, "Expressions").
 use crate::aggregates::array;
 use crate::assigns::{assign, assign_operator};
-use crate::conversion::{at_of, convert};
-use crate::facts::{check_cells, deeper, start_value};
 use crate::guards::{is_struct, is_type, is_valid, traits};
-use crate::make::{add, bare, constant, logical, number};
-use crate::operators::{chained, compare, unary_number};
-use crate::resolution::{here, resolved_value};
+use crate::resolution::resolved_value;
+use crate::steps::step_before;
 use crate::types::judge_type;
-use crate::updates::step_before;
-use crate::values::this;
 use dc_ast::{AssignOperator, UnaryOperator};
+use dc_facts::{check_cells, deeper, start_value};
+use dc_form::{add, at_of, bare, constant, convert, logical, number};
 use dc_model::{Env, Stop, World};
+use dc_names::{here, this};
+use dc_operators::{bare_node, chained, compare, unary_number};
 use dc_syntax::{Form, List, NodeId};
 use dc_tree::{Tree, TreeForm, TreeId, TypeId, Value, ValueId, Where};
 
@@ -42,7 +41,7 @@ pub fn judge(
             let test = condition(w, env, c, less)?;
             let left = judge(w, env, a, None, less)?;
             let right = judge(w, env, b, None, less)?;
-            crate::aggregates::conditional(w, test, left, right, at)
+            dc_operators::conditional(w, test, left, right, at)
         }
         Form::Assign(a, AssignOperator::Assign, b) => assign(w, env, a, b, at, less),
         Form::Assign(a, operator, b) => assign_operator(w, env, a, operator, b, at, less),
@@ -105,11 +104,11 @@ fn dollar(w: &mut World, env: Env, at: Where) -> Result<TreeId, Stop> {
     let name = w.pool.names.number(b"$")?;
     match w.locals.find(env.block, name) {
         Some(symbol) => {
-            let found = crate::resolution::Resolved {
+            let found = dc_names::Resolved {
                 symbol,
                 name_at: at,
             };
-            crate::values::value(w, env, found, at)
+            dc_names::value(w, env, found, at)
         }
         None => w.refuse(10, at, None),
     }
@@ -142,18 +141,6 @@ pub fn condition(w: &mut World, env: Env, n: NodeId, depth: u32) -> Result<TreeI
     Ok(tree)
 }
 
-/// The node inside parentheses.
-pub(crate) fn bare_node(w: &World, n: NodeId) -> NodeId {
-    let mut at = n;
-    for _ in 0..u64::MAX {
-        match w.pool.syntax.node(at).form {
-            Form::Paren(inner) => at = inner,
-            _ => break,
-        }
-    }
-    at
-}
-
 #[cycle(judging)]
 fn unary(
     w: &mut World,
@@ -172,7 +159,7 @@ fn unary(
         }
         UnaryOperator::Not => {
             let tree = condition(w, env, a, less)?;
-            let value = crate::make::known(w, tree).map(|n| n == 0);
+            let value = dc_form::known(w, tree).map(|n| n == 0);
             logical(w, TreeForm::Not(tree), at, value)
         }
         _ => {
@@ -201,12 +188,9 @@ fn cast(
     let tree = judge(w, env, a, None, less)?;
     let from = w.pool.trees.get(tree).of;
     match (w.pool.types.kind(to), w.pool.types.kind(from)) {
-        (Some(kind), Some(_)) => match (
-            crate::make::const_of(w, tree),
-            crate::make::known(w, tree),
-        ) {
+        (Some(kind), Some(_)) => match (dc_form::const_of(w, tree), dc_form::known(w, tree)) {
             (Some(_), Some(n)) => number(w, to, dc_num::wrap(kind, n), at),
-            _ => crate::operators::cast_number(w, tree, to, kind, at),
+            _ => dc_operators::cast_number(w, tree, to, kind, at),
         },
         _ => w.refuse(10, at, None),
     }
@@ -230,13 +214,13 @@ fn chain(
         let Form::Step(operator, operand) = w.pool.syntax.node(step).form else {
             break;
         };
-        if crate::operators::is_logical(operator) && k == 0 {
-            crate::operators::check_condition(w, so_far, left_at)?;
+        if dc_operators::is_logical(operator) && k == 0 {
+            dc_operators::check_condition(w, so_far, left_at)?;
         }
         let right = judge(w, env, operand, None, less)?;
         left_at = here(env, w.pool.syntax.node(operand).at);
-        if crate::operators::is_logical(operator) {
-            crate::operators::check_condition(w, right, left_at)?;
+        if dc_operators::is_logical(operator) {
+            dc_operators::check_condition(w, right, left_at)?;
         }
         so_far = chained(w, operator, so_far, right, at)?;
     }
@@ -291,6 +275,6 @@ fn new_array(
 }
 
 /// The place of an expression's tree, for callers that have only the tree.
-pub(crate) fn tree_at(w: &World, tree: TreeId) -> Where {
+fn tree_at(w: &World, tree: TreeId) -> Where {
     at_of(w, tree)
 }

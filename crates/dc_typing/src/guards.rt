@@ -1,34 +1,20 @@
 // What asks whether something is well formed (D specification, "Expressions", "Is Expressions"; "Traits").
-use crate::deduce::{deduce_one, softened};
-use crate::evals::{Want, evaluate};
+use crate::deduce::deduce_one;
+use crate::evals::evaluate;
 use crate::expression::judge;
-use crate::facts::deeper;
-use crate::levels::{NONE, Source, level};
-use crate::make::truth;
-use crate::names::{Property, Sought, has_enumerator, look_within, package_end};
-use crate::resolution::{here, resolve};
-use crate::shown::text_of;
+use crate::resolution::resolve;
 use crate::types::judge_type;
-use crate::values::value;
 use dc_ast::IsRelation;
-use dc_model::{Arg, Ask, Decl, DeclKind, Env, Question, Stop, Symbol, Work, World};
+use dc_facts::deeper;
+use dc_form::{NONE, Source, level, truth};
+use dc_model::{Arg, Env, Stop, Symbol, World};
+use dc_names::{
+    Sought, Want, guarded, here, look_within, package_end, push_names, settled, text_of, type_has,
+    value,
+};
+use dc_operators::softened;
 use dc_syntax::{Form, List, NameId, NodeId};
-use dc_tree::{TreeId, Type, TypeId, UnitId, Where};
-
-/// The result, or nothing where it fails by a rule that makes a guard false.
-pub fn guarded<T: Drop>(found: Result<T, Stop>) -> Result<Option<T>, Stop> {
-    match found {
-        Ok(found) => Ok(Some(found)),
-        Err(Stop::Failed(refused)) => {
-            if refused.is_guarded() {
-                Ok(None)
-            } else {
-                Err(Stop::Failed(refused))
-            }
-        }
-        Err(stop) => Err(stop),
-    }
-}
+use dc_tree::{TreeId, Type, TypeId, Where};
 
 /// `T == U, names` of an `is`.
 #[derive(Clone, Copy)]
@@ -244,7 +230,7 @@ fn trait_symbol(w: &mut World, env: Env, n: NodeId, depth: u32) -> Result<Symbol
         Symbol::Type(_) | Symbol::Module(_) | Symbol::Instance(_) => Ok(symbol),
         _ => {
             let at = here(env, w.pool.syntax.node(n).at);
-            let whole = crate::resolution::Resolved { symbol, ..found };
+            let whole = dc_names::Resolved { symbol, ..found };
             let tree = value(w, env, whole, at)?;
             Ok(Symbol::Type(w.pool.trees.get(tree).of))
         }
@@ -277,76 +263,6 @@ fn has_member(w: &mut World, env: Env, args: List, at: Where, depth: u32) -> Res
         Symbol::Type(of) => type_has(w, env, of, sought),
         _ => Ok(false),
     }
-}
-
-/// Whether a type has a member or a property of that name.
-fn type_has(w: &mut World, env: Env, of: TypeId, sought: Sought) -> Result<bool, Stop> {
-    match w.pool.types.get(of) {
-        Type::Struct(unit) => {
-            if look_within(w, env, unit, sought)?.is_some() {
-                return Ok(true);
-            }
-        }
-        Type::Enum(decl, _) => {
-            if has_enumerator(w, decl, sought.name)? {
-                return Ok(true);
-            }
-        }
-        _ => {}
-    }
-    let element = w.pool.types.element(of);
-    Ok(match Property::of(w.pool.names.bytes(sought.name)) {
-        Property::Init | Property::StringOf => true,
-        Property::Min | Property::Max => match w.pool.types.get(of) {
-            Type::Int(_) => true,
-            _ => false,
-        },
-        Property::Length | Property::Dup => element.is_some(),
-        Property::Idup => element == Some(TypeId::CHAR),
-        Property::Other => false,
-    })
-}
-
-/// Asks the conditionals of a unit that aren't settled.
-pub fn settled(w: &mut World, unit: UnitId) -> Result<(), Stop> {
-    let Some(cond) = w.unit(unit)?.pending else {
-        return Ok(());
-    };
-    let stands = w.cond(cond)?.at;
-    let at = w.pool.places.place(stands)?;
-    let question = Question {
-        ask: Ask::Settle,
-        at,
-    };
-    w.ask(question, Work::Settle(cond))?;
-    Ok(())
-}
-
-/// The names that a declaration of a struct gives.
-fn push_names(w: &World, decl: Decl, names: &mut Vec<NameId>) -> Result<(), Stop> {
-    if let Some(name) = decl.name {
-        if !names.contains(&name) {
-            names.push(name)?;
-        }
-        return Ok(());
-    }
-    if decl.kind != DeclKind::Enum {
-        return Ok(());
-    }
-    let mut at = decl.other;
-    for _ in 0..u64::MAX {
-        let Some(id) = at else {
-            break;
-        };
-        let member = w.decl(id)?;
-        if let Some(name) = member.name {
-            if !names.contains(&name) {
-                names.push(name)?;
-            }
-        }
-        at = member.other;
-    }
-    Ok(())
 }
 
 /// `__traits(allMembers, S)`: the names of a struct's declarations but its imports, each once, in text order.

@@ -1,8 +1,8 @@
 // Mixins (D specification, "Statements", "Mixin Statement"; "Expressions", "Mixin Expressions").
-use crate::evals::{Want, evaluate};
-use crate::facts::deeper;
-use crate::resolution::here;
+use crate::evals::evaluate;
+use dc_facts::deeper;
 use dc_model::{Answer, Ask, Env, Question, Stop, Work, World};
+use dc_names::{Want, here};
 use dc_syntax::NodeId;
 use dc_tree::{SpotId, Type, TypeId, ValueId};
 

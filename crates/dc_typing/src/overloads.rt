@@ -1,13 +1,12 @@
 // Choosing among overloads (D specification, "Functions", "Function Overloading").
 use crate::deduce::deduce;
-use crate::facts::{deeper, signature_of};
-use crate::guards::guarded;
-use crate::levels::{NONE, SAME, Source, level};
-use crate::names::Sought;
 use crate::taking::{opaque_parameters, parameters_in};
-use crate::templates::{constraint_holds, instance_of};
+use dc_facts::{deeper, signature_of};
+use dc_form::{NONE, Source, level};
 use dc_model::{Arg, DeclKind, Env, FunctionSet, Stop, World};
-use dc_tree::{DeclId, Taken, TreeId, Type, TypeId, UnitId};
+use dc_names::{Sought, constraint_holds, guarded, instance_of};
+use dc_operators::{builtin_level, call_level, level_behind};
+use dc_tree::{DeclId, Taken, TreeId, UnitId};
 
 /// The most parameter types of candidates that are open inside one another.
 const GUARDS: u8 = 64;
@@ -32,78 +31,6 @@ struct Candidate {
     /// Where its parameters stand among those of all candidates.
     from: usize,
     len: usize,
-}
-
-/// How well an argument goes to a parameter.
-fn argument_level(w: &World, parameter: Taken, source: Source) -> u8 {
-    let found = level(w, source, parameter.of);
-    if !parameter.by_ref {
-        return found;
-    }
-    let is_place = match source {
-        Source::Tree(tree) => w.pool.trees.get(tree).is_place,
-        Source::Bare(_, is_place) => is_place,
-    };
-    if is_place && found == SAME {
-        SAME
-    } else {
-        NONE
-    }
-}
-
-/// The worst level of the arguments, none where their number differs.
-fn call_level(w: &World, parameters: &[Taken], sources: &[Source]) -> u8 {
-    if parameters.len() != sources.len() {
-        return NONE;
-    }
-    let mut worst = SAME;
-    for (parameter, source) in parameters.iter().zip(sources.iter()) {
-        worst = worst.min(argument_level(w, *parameter, *source));
-    }
-    worst
-}
-
-fn is_textable(w: &World, of: TypeId) -> bool {
-    match w.pool.types.get(of) {
-        Type::Int(_) | Type::Str => true,
-        _ => false,
-    }
-}
-
-fn is_printable(w: &World, of: TypeId) -> bool {
-    match w.pool.types.get(of) {
-        Type::Int(_) | Type::Str => true,
-        Type::Slice(item) | Type::Fixed(item, _) => match w.pool.types.get(item) {
-            Type::Int(_) => true,
-            _ => false,
-        },
-        _ => false,
-    }
-}
-
-/// How well the arguments go to a built-in function.
-fn builtin_level(
-    w: &World,
-    decl: DeclId,
-    explicit: Option<&[Arg]>,
-    args: &[TreeId],
-) -> Result<u8, Stop> {
-    let name = match w.decl(decl)?.name {
-        Some(name) => w.pool.names.bytes(name),
-        None => b"",
-    };
-    let types = &w.pool.trees;
-    let holds = match (name, explicit) {
-        (b"to", Some([Arg::OfType(of)])) => {
-            *of == TypeId::STRING
-                && args.len() == 1
-                && args.iter().all(|arg| is_textable(w, types.get(*arg).of))
-        }
-        (b"to", _) | (_, Some(_)) => false,
-        (b"text", None) => args.iter().all(|arg| is_textable(w, types.get(*arg).of)),
-        (_, None) => args.iter().all(|arg| is_printable(w, types.get(*arg).of)),
-    };
-    Ok(if holds { SAME } else { NONE })
 }
 
 /// The parameters of a candidate, judged for the call; nothing where it is taken out.
@@ -147,14 +74,6 @@ fn judged_candidate(
     }
     all.extend_from_slice(taken.as_slice())?;
     Ok(Some(Chosen::Instance(unit)))
-}
-
-/// The level of a call of the parameters from one on.
-fn level_behind(w: &World, all: &[Taken], from: usize, sources: &[Source]) -> u8 {
-    match all.get(from..) {
-        Some(own) => call_level(w, own, sources),
-        None => NONE,
-    }
 }
 
 /// A candidate with its level; nothing where it is taken out or doesn't fit.
@@ -364,7 +283,7 @@ fn is_above(
 fn is_callable(w: &mut World, decl: DeclId, sources: &[Source], depth: u32) -> Result<bool, Stop> {
     let less = deeper(depth)?;
     let known = w.decl(decl)?;
-    let env = crate::facts::decl_env(w, known)?;
+    let env = dc_facts::decl_env(w, known)?;
     let trial = Env {
         in_trial: true,
         ..env

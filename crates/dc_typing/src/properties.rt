@@ -1,8 +1,7 @@
 // Properties of values (D specification, "Properties").
-use crate::conversion::as_slice;
-use crate::make::{add_number, bare};
-use crate::names::{Property, Sought, type_property};
+use dc_form::{add_number, as_slice, bare};
 use dc_model::{Stop, Symbol, World};
+use dc_names::{Property, Sought, type_property};
 use dc_tree::{Range, Tree, TreeForm, TreeId, Type, TypeId, Where};
 
 /// `value.name` that is no member of a struct, or rule 5.

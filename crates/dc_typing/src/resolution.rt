@@ -2,54 +2,20 @@
 use crate::calls::{Called, call_member, call_plain};
 use crate::elements::{judge_index, judge_part};
 use crate::expression::judge;
-use crate::facts::deeper;
 use crate::mixins::mixed_expression;
-use crate::names::{Property, Sought, finished, named, package_end, qualified, rows_symbol_within};
 use crate::properties::value_member;
+use crate::steps::step_behind;
 use crate::templates::apply;
-use crate::types::{fixed_of, judge_type, named_type, slice_type};
-use crate::updates::step_behind;
-use crate::values::value;
+use crate::types::{fixed_of, judge_type, named_type};
+use dc_facts::deeper;
 use dc_model::{Env, Stop, Symbol, World};
+use dc_names::{
+    Property, Resolved, Sought, finished, here, named, package_end, qualified, rows_symbol_within,
+    sought_of, value,
+};
+use dc_operators::slice_type;
 use dc_syntax::{Form, List, NodeId};
 use dc_tree::Where;
-
-/// What an expression stands for, and the offset of its last name.
-#[derive(Clone, Copy)]
-pub struct Resolved {
-    pub symbol: Symbol,
-    /// Where rule 10 on the symbol is: at the last name, or at the expression.
-    pub name_at: Where,
-}
-
-/// An offset in the text of an environment.
-pub(crate) fn here(env: Env, at: u32) -> Where {
-    Where { spot: env.spot, at }
-}
-
-/// A name or an instance as what is looked for.
-pub(crate) fn sought_of(w: &World, env: Env, n: NodeId) -> Option<(Sought, Option<List>)> {
-    let node = w.pool.syntax.node(n);
-    match node.form {
-        Form::Name(name) => Some((
-            Sought {
-                name,
-                at: here(env, node.at),
-                is_applied: false,
-            },
-            None,
-        )),
-        Form::Instance(name, args) => Some((
-            Sought {
-                name,
-                at: here(env, node.at),
-                is_applied: true,
-            },
-            Some(args),
-        )),
-        _ => None,
-    }
-}
 
 /// What stands behind `!`, applied to what the name before it stands for.
 #[cycle(judging)]
@@ -222,9 +188,7 @@ fn member(
         _ => {
             let tree = value(w, env, base, at)?;
             match rows_symbol_within(w, env, tree, sought)? {
-                Some(Symbol::Field(field)) => {
-                    Symbol::Tree(crate::values::field(w, tree, field, at)?)
-                }
+                Some(Symbol::Field(field)) => { Symbol::Tree(dc_names::field(w, tree, field, at)?) }
                 Some(found) => {
                     let found = applied(w, env, found, sought, args, less)?;
                     match found {

@@ -1,24 +1,10 @@
 // The parameters of functions (D specification, "Functions", "Function Parameters").
-use crate::facts::{Holding, decl_env, deeper, holds};
-use crate::resolution::here;
 use crate::types::judge_type;
-use dc_ast::Storage;
-use dc_model::{Arg, Decl, Env, Stop, Unit, World};
+use dc_facts::{decl_env, deeper};
+use dc_model::{Arg, Decl, Env, Stop, World};
+use dc_names::{check_storage, here, own_env, trial_unit};
 use dc_syntax::{Form, ParameterNode};
 use dc_tree::{DeclId, Taken, Type, TypeId, UnitId, Where};
-
-/// Refuses `const` and `immutable` where the type holds a slice but `string`.
-pub fn check_storage(
-    w: &mut World,
-    storage: Option<Storage>,
-    of: TypeId,
-    at: Where,
-) -> Result<(), Stop> {
-    if storage.is_some() && holds(w, of, Holding::Slice)? {
-        return w.refuse(10, at, None);
-    }
-    Ok(())
-}
 
 /// A parameter of a function.
 #[cycle(judging)]
@@ -72,16 +58,6 @@ pub fn parameters(w: &mut World, env: Env, decl: Decl, depth: u32) -> Result<Vec
         all.push(taken)?;
     }
     Ok(all)
-}
-
-/// The declaration of an instance without parameters, and where its text is judged.
-fn own_env(w: &mut World, unit: UnitId) -> Result<(Decl, Env), Stop> {
-    let Some(own) = w.unit(unit)?.own else {
-        return Err(Stop::NoMemory);
-    };
-    let decl = w.decl(own)?;
-    let env = decl_env(w, decl)?;
-    Ok((decl, env))
 }
 
 /// The parameters of an instance of a function template, as those of a candidate.
@@ -162,28 +138,4 @@ pub(crate) fn opaque_parameters(
         ..env
     };
     parameters(w, inner, decl, less)
-}
-
-/// A unit in which a template's parameters are bound, and which is no instance of it.
-pub(crate) fn trial_unit(w: &mut World, template: DeclId, args: &[Arg]) -> Result<UnitId, Stop> {
-    let decl = w.decl(template)?;
-    let args = w.add_args(args)?;
-    let name = match decl.name {
-        Some(name) => name,
-        None => return Err(Stop::NoMemory),
-    };
-    Ok(w.add_unit(Unit {
-        kind: dc_model::UnitKind::Instance,
-        at: decl.at,
-        spot: decl.at.spot,
-        outer: Some(decl.unit),
-        name,
-        decl: Some(template),
-        args: Some(args),
-        own: None,
-        pending: None,
-        first: None,
-        is_named: false,
-        is_built: false,
-    })?)
 }

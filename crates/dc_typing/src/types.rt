@@ -1,44 +1,12 @@
 // Types as they are written (D specification, "Types").
-use crate::evals::{Want, evaluate};
-use crate::facts::{TYPE_CELLS, deeper};
-use crate::names::{finished, named, package_end, qualified};
-use crate::resolution::{applied, here, resolve, sought_of};
-use crate::values::value;
-use dc_ast::BasicType;
+use crate::evals::evaluate;
+use crate::resolution::{applied, resolve};
+use dc_facts::{TYPE_CELLS, deeper};
 use dc_model::{Env, Stop, Symbol, World};
+use dc_names::{Want, finished, here, named, package_end, qualified, sought_of, value};
+use dc_operators::{as_type, basic, check_element, slice_type};
 use dc_syntax::{Form, List, NodeId};
 use dc_tree::{Type, TypeId, Where};
-use dc_types::Kind;
-
-fn basic(of: BasicType) -> TypeId {
-    match of {
-        BasicType::Void => TypeId::VOID,
-        BasicType::Bool => TypeId::BOOL,
-        BasicType::Char => TypeId::CHAR,
-        BasicType::Byte => TypeId::of_kind(Kind::I8),
-        BasicType::Ubyte => TypeId::of_kind(Kind::U8),
-        BasicType::Short => TypeId::of_kind(Kind::I16),
-        BasicType::Ushort => TypeId::of_kind(Kind::U16),
-        BasicType::Int => TypeId::INT,
-        BasicType::Uint => TypeId::of_kind(Kind::U32),
-        BasicType::Long => TypeId::LONG,
-        BasicType::Ulong => TypeId::ULONG,
-    }
-}
-
-/// Refuses what can't be the type of an element.
-fn check_element(w: &mut World, of: TypeId, at: Where) -> Result<(), Stop> {
-    if of == TypeId::VOID || of == TypeId::NULL || of == TypeId::EMPTY {
-        return w.refuse(10, at, None);
-    }
-    Ok(())
-}
-
-/// `T[]`
-pub(crate) fn slice_type(w: &mut World, of: TypeId, at: Where) -> Result<TypeId, Stop> {
-    check_element(w, of, at)?;
-    Ok(w.pool.types.number(Type::Slice(of))?)
-}
 
 /// `T[n]`
 #[cycle(judging)]
@@ -94,13 +62,6 @@ pub fn judge_type(w: &mut World, env: Env, n: NodeId, depth: u32) -> Result<Type
     }
 }
 
-fn as_type(w: &mut World, symbol: Symbol, at: Where) -> Result<TypeId, Stop> {
-    match symbol {
-        Symbol::Type(of) => Ok(of),
-        _ => w.refuse(10, at, None),
-    }
-}
-
 /// A base and its brackets. `immutable(char)[]` is `string`.
 #[cycle(judging)]
 fn bracketed(
@@ -141,7 +102,7 @@ fn type_of_expression(w: &mut World, env: Env, e: NodeId, depth: u32) -> Result<
     let at = here(env, w.pool.syntax.node(e).at);
     let found = resolve(w, inner, e, less)?;
     let symbol = package_end(w, inner, found.symbol)?;
-    let whole = crate::resolution::Resolved { symbol, ..found };
+    let whole = dc_names::Resolved { symbol, ..found };
     match symbol {
         Symbol::Type(_) => w.refuse(10, at, None),
         Symbol::Method(_, _) => w.refuse(10, found.name_at, None),

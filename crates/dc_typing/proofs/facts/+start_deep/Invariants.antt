@@ -1,4 +1,0 @@
-use Rattle.dc_typing.proofs.facts.+start_deep.Given as goal
-
-abbrev pub decreases-start_deep : goal.decreases-start_deep
-decreases-start_deep l = l.depth
