@@ -2,11 +2,13 @@
 #![tactic(auto)]
 
 mod arrays;
+mod conditions;
 mod constants;
 mod lowering;
 mod places;
 mod prints;
 mod sizes;
+mod slots;
 mod statements;
 mod values;
 

@@ -17,6 +17,19 @@ pub(crate) enum Home {
     Number(u64),
 }
 
+/// Jumps that wait for where they lead.
+#[derive(Clone, Copy)]
+pub(crate) enum Pending {
+    /// Behind the loop or `switch` around.
+    Break,
+    /// To the next turn.
+    Continue,
+    /// By a condition.
+    Branch,
+    /// By a part of a condition, to another place.
+    Other,
+}
+
 /// An evaluation: its first instruction, and the words of its frame.
 #[derive(Clone, Copy)]
 pub struct Entry {
@@ -41,9 +54,10 @@ pub struct Lowering {
     pub(crate) at: Where,
     /// The words that the body returns.
     pub(crate) gives: u32,
-    /// Jumps that lead behind the loop or `switch` around, and to the next turn.
-    pub(crate) breaks: Vec<u32>,
-    pub(crate) continues: Vec<u32>,
+    breaks: Vec<u32>,
+    continues: Vec<u32>,
+    branches: Vec<u32>,
+    others: Vec<u32>,
     /// The numbers of the prints that end a line.
     lines: Vec<u32>,
     line_feed: Option<u32>,
@@ -69,6 +83,8 @@ impl Lowering {
             gives: 0,
             breaks: Vec::new(alloc),
             continues: Vec::new(alloc),
+            branches: Vec::new(alloc),
+            others: Vec::new(alloc),
             lines: Vec::new(alloc),
             line_feed: None,
         }
@@ -149,6 +165,8 @@ impl Lowering {
         self.homes.clear();
         self.breaks.clear();
         self.continues.clear();
+        self.branches.clear();
+        self.others.clear();
         self.top = 0;
         self.most = 0;
         self.gives = gives;
@@ -175,6 +193,46 @@ impl Lowering {
     pub(crate) fn land(&mut self, jump: u32) -> Result<(), Want> {
         let here = self.next()?;
         self.program.patch(jump, here);
+        Ok(())
+    }
+
+    fn jumps(&mut self, pending: Pending) -> &mut Vec<u32> {
+        match pending {
+            Pending::Break => &mut self.breaks,
+            Pending::Continue => &mut self.continues,
+            Pending::Branch => &mut self.branches,
+            Pending::Other => &mut self.others,
+        }
+    }
+
+    /// A jump waits.
+    pub(crate) fn wait(&mut self, pending: Pending, jump: u32) -> Result<(), Want> {
+        self.jumps(pending).push(jump)?;
+        Ok(())
+    }
+
+    /// How many jumps wait.
+    pub(crate) fn waiting(&mut self, pending: Pending) -> usize {
+        self.jumps(pending).len()
+    }
+
+    /// Lets the jumps that wait lead to an instruction, but for so many that waited before.
+    pub(crate) fn settle_at(&mut self, pending: Pending, before: usize, target: u32) {
+        for _ in 0..u64::MAX {
+            if self.waiting(pending) <= before {
+                break;
+            }
+            let Some(jump) = self.jumps(pending).pop() else {
+                break;
+            };
+            self.program.patch(jump, target);
+        }
+    }
+
+    /// Lets the jumps that wait lead to the next instruction, but for so many that waited before.
+    pub(crate) fn settle(&mut self, pending: Pending, before: usize) -> Result<(), Want> {
+        let here = self.next()?;
+        self.settle_at(pending, before, here);
         Ok(())
     }
 

@@ -1,7 +1,8 @@
 // Places.
 use crate::lowering::{Home, Lowering};
 use crate::sizes::{NESTED, cells, element_cells, holds_fixed};
-use crate::values::{is_still, operand, value};
+use crate::slots::is_still;
+use crate::values::{operand, value};
 use dc_code::Op;
 use dc_syntax::Want;
 use dc_tree::{DeclId, Pool, Tree, TreeForm, TreeId, TypeId, VarId};
@@ -168,7 +169,7 @@ fn element(
         return Err(Want);
     }
     let c = element_cells(pool, pool.trees.get(array).of);
-    let slice = if is_still(pool, index, 4) {
+    let slice = if is_still(pool, index) {
         operand(l, pool, array, depth - 1)?
     } else {
         let t = l.temp(3);

@@ -1,5 +1,6 @@
 // Statements and bodies.
-use crate::lowering::{Entry, Home, Lowering};
+use crate::conditions::decide;
+use crate::lowering::{Entry, Home, Lowering, Pending};
 use crate::places::{address, place};
 use crate::sizes::{NESTED, cells, element_cells, holds_fixed, result_cells};
 use crate::values::{effect, operand, value};
@@ -161,11 +162,11 @@ fn statement(l: &mut Lowering, pool: &Pool, id: StmtId, depth: u32) -> Result<()
         StmtForm::If(_, _, _) => branches(l, pool, id, depth - 1)?,
         StmtForm::Break => {
             let jump = l.emit(Op::Jump(0))?;
-            l.breaks.push(jump)?;
+            l.wait(Pending::Break, jump)?;
         }
         StmtForm::Continue => {
             let jump = l.emit(Op::Jump(0))?;
-            l.continues.push(jump)?;
+            l.wait(Pending::Continue, jump)?;
         }
         StmtForm::Return(tree) => give(l, pool, tree, depth)?,
         StmtForm::Switch(tree, list) => switch(l, pool, tree, list, depth - 1)?,
@@ -224,43 +225,17 @@ fn branches(l: &mut Lowering, pool: &Pool, id: StmtId, depth: u32) -> Result<(),
             statement(l, pool, this, depth - 1)?;
             break;
         };
-        let over = unless(l, pool, c, depth)?;
+        let waiting = l.waiting(Pending::Branch);
+        decide(l, pool, c, false, Pending::Branch, depth)?;
         statement(l, pool, then, depth - 1)?;
         if other.is_some() {
             ends.push(l.emit(Op::Jump(0))?)?;
         }
-        l.land(over)?;
+        l.settle(Pending::Branch, waiting)?;
         at = other;
     }
     for end in ends.as_slice() {
         l.land(*end)?;
-    }
-    Ok(())
-}
-
-/// A jump that is done where the condition doesn't hold.
-fn unless(l: &mut Lowering, pool: &Pool, c: TreeId, depth: u32) -> Result<u32, Want> {
-    let top = l.top;
-    let s = operand(l, pool, c, depth)?;
-    l.top = top;
-    l.emit(Op::JumpZero(s, 0))
-}
-
-/// Lets the jumps behind a loop and to its next turn lead there, but for those of loops around.
-fn settle(l: &mut Lowering, jumps: usize, is_break: bool) -> Result<(), Want> {
-    for _ in 0..u64::MAX {
-        let list = if is_break {
-            &mut l.breaks
-        } else {
-            &mut l.continues
-        };
-        if list.len() <= jumps {
-            break;
-        }
-        let Some(jump) = list.pop() else {
-            break;
-        };
-        l.land(jump)?;
     }
     Ok(())
 }
@@ -277,7 +252,8 @@ fn looped(
         return Err(Want);
     }
     let top = l.top;
-    let (breaks, continues) = (l.breaks.len(), l.continues.len());
+    let breaks = l.waiting(Pending::Break);
+    let continues = l.waiting(Pending::Continue);
     match form {
         StmtForm::While(c, body) => {
             turns(l, pool, Some(c), None, body, continues, at, depth - 1)?;
@@ -290,7 +266,7 @@ fn looped(
             l.at = at;
             l.emit(Op::Turn)?;
             statement(l, pool, body, depth - 1)?;
-            settle(l, continues, false)?;
+            l.settle(Pending::Continue, continues)?;
             again(l, pool, c, begin, depth)?;
         }
         StmtForm::Count(lo, hi, name, counter, body) => {
@@ -313,17 +289,16 @@ fn looped(
         },
         _ => {}
     }
-    settle(l, breaks, true)?;
+    l.settle(Pending::Break, breaks)?;
     l.top = top;
     Ok(())
 }
 
 /// Goes back where the condition holds.
 fn again(l: &mut Lowering, pool: &Pool, c: TreeId, begin: u32, depth: u32) -> Result<(), Want> {
-    let top = l.top;
-    let s = operand(l, pool, c, depth)?;
-    l.emit(Op::JumpOther(s, begin))?;
-    l.top = top;
+    let waiting = l.waiting(Pending::Branch);
+    decide(l, pool, c, true, Pending::Branch, depth)?;
+    l.settle_at(Pending::Branch, waiting, begin);
     Ok(())
 }
 
@@ -347,7 +322,7 @@ fn turns(
     l.at = at;
     l.emit(Op::Turn)?;
     statement(l, pool, body, depth - 1)?;
-    settle(l, continues, false)?;
+    l.settle(Pending::Continue, continues)?;
     if let Some(step) = step {
         effect(l, pool, step, depth)?;
     }
@@ -392,7 +367,7 @@ fn count(
     l.emit(Op::Turn)?;
     l.copy(shown, s, 1)?;
     statement(l, pool, body, depth - 1)?;
-    settle(l, continues, false)?;
+    l.settle(Pending::Continue, continues)?;
     l.at = at;
     l.emit(Op::Const(one, 1))?;
     l.emit(Op::Binary(BinOp::Add, Kind::I64, s, s, one))?;
@@ -488,7 +463,7 @@ fn walk_over(
     l.emit(Op::Turn)?;
     walk_names(l, pool, node, walk, depth)?;
     statement(l, pool, node.body, depth - 1)?;
-    settle(l, continues, false)?;
+    l.settle(Pending::Continue, continues)?;
     l.at = at;
     let test = walk.spare.saturating_add(1);
     l.emit(Op::Const(walk.spare, 1))?;
@@ -522,7 +497,7 @@ fn switch(l: &mut Lowering, pool: &Pool, tree: TreeId, list: List, depth: u32) -
         return Err(Want);
     }
     let top = l.top;
-    let breaks = l.breaks.len();
+    let breaks = l.waiting(Pending::Break);
     let s = l.temp(cells(pool, pool.trees.get(tree).of));
     value(l, pool, tree, s, depth)?;
     let mut jumps = Vec::new(l.alloc);
@@ -538,7 +513,7 @@ fn switch(l: &mut Lowering, pool: &Pool, tree: TreeId, list: List, depth: u32) -
     }
     let otherwise = l.emit(Op::Jump(0))?;
     groups(l, pool, list, jumps.as_slice(), otherwise, depth - 1)?;
-    settle(l, breaks, true)?;
+    l.settle(Pending::Break, breaks)?;
     l.top = top;
     Ok(())
 }

@@ -1,67 +1,27 @@
 // Values of expressions.
+use crate::conditions::decide;
 use crate::constants::constant;
-use crate::lowering::{Home, Lowering};
-use crate::places::{Spot, address, load, place, store};
+use crate::lowering::{Home, Lowering, Pending};
+use crate::places::{address, load, place, store};
 use crate::sizes::{NESTED, cells, element_cells, grows, result_cells};
+use crate::slots::{
+    is_calm, is_flat, is_still, keeps_word, keeps_words, kind_of, known_slot, own_slot,
+};
 use dc_code::Op;
 use dc_syntax::Want;
-use dc_tree::{CallNode, Pool, Range, Tree, TreeForm, TreeId};
+use dc_tree::{CallNode, Pool, Tree, TreeForm, TreeId};
 use dc_types::{BinOp, CmpOp, Kind, TrapKind, UnOp};
 
-/// Whether an evaluation writes nothing and can't trap for want of cells: a leaf, or an operation on some.
-#[cycle(is_still)]
-pub(crate) fn is_still(pool: &Pool, id: TreeId, depth: u32) -> bool {
-    if depth == 0 {
-        return false;
-    }
-    match pool.trees.get(id).form {
-        TreeForm::Const(_) | TreeForm::Local(_) | TreeForm::Dollar(_) | TreeForm::This => true,
-        TreeForm::Convert(a)
-        | TreeForm::As(a)
-        | TreeForm::Unary(_, a)
-        | TreeForm::Not(a)
-        | TreeForm::Length(a)
-        | TreeForm::Field(a, _) => is_still(pool, a, depth - 1),
-        TreeForm::Binary(_, _, a, b) | TreeForm::Compare(_, _, a, b) => {
-            is_still(pool, a, depth - 1) && is_still(pool, b, depth - 1)
-        }
-        _ => false,
-    }
-}
-
-/// Whether the last instruction of the evaluation is the only one that writes its slots.
-fn is_flat(pool: &Pool, id: TreeId) -> bool {
-    match pool.trees.get(id).form {
-        TreeForm::Binary(_, _, a, b) | TreeForm::Compare(_, _, a, b) => {
-            is_still(pool, a, 1) && is_still(pool, b, 1)
-        }
-        TreeForm::Convert(a) | TreeForm::Unary(_, a) | TreeForm::Not(a) => is_still(pool, a, 1),
-        TreeForm::Const(_) | TreeForm::Local(_) | TreeForm::Call(_) => true,
-        _ => false,
-    }
-}
-
-/// The kind of a number; `long` of others.
-fn kind_of(pool: &Pool, tree: Tree) -> Kind {
-    match pool.types.kind(tree.of) {
-        Some(kind) => kind,
-        None => Kind::I64,
-    }
-}
-
-/// The slots that hold the value: those of a local variable themselves.
+/// The slots that hold the value: those in which it stands, or others.
 #[cycle(value)]
 pub(crate) fn operand(l: &mut Lowering, pool: &Pool, id: TreeId, depth: u32) -> Result<u32, Want> {
     if depth == 0 {
         return Err(Want);
     }
-    let tree = pool.trees.get(id);
-    if let TreeForm::Local(v) | TreeForm::Dollar(v) = tree.form {
-        if let Home::Slot(s) = l.home(v) {
-            return Ok(s);
-        }
+    if let Some(s) = known_slot(l, pool, id) {
+        return Ok(s);
     }
-    let t = l.temp(cells(pool, tree.of));
+    let t = l.temp(cells(pool, pool.trees.get(id).of));
     value(l, pool, id, t, depth - 1)?;
     Ok(t)
 }
@@ -72,7 +32,7 @@ fn kept(l: &mut Lowering, pool: &Pool, id: TreeId, other: TreeId, depth: u32) ->
     if depth == 0 {
         return Err(Want);
     }
-    if is_still(pool, other, 6) {
+    if is_still(pool, other) {
         return operand(l, pool, id, depth - 1);
     }
     let t = l.temp(cells(pool, pool.trees.get(id).of));
@@ -291,7 +251,7 @@ fn parts(
     Ok(())
 }
 
-/// The operations on numbers that stand one in the left operand of the other.
+/// The operations on numbers that stand one in the left operand of the other. The last alone writes the slot.
 #[cycle(value)]
 fn chain(l: &mut Lowering, pool: &Pool, id: TreeId, d: u32, depth: u32) -> Result<(), Want> {
     if depth == 0 {
@@ -300,23 +260,30 @@ fn chain(l: &mut Lowering, pool: &Pool, id: TreeId, d: u32, depth: u32) -> Resul
     let mut spine = Vec::new(l.alloc);
     let mut at = id;
     for _ in 0..u64::MAX {
-        let next = match pool.trees.get(at).form {
+        let tree = pool.trees.get(at);
+        let next = match tree.form {
+            TreeForm::Convert(a) if keeps_words(pool, tree, a) => {
+                at = a;
+                continue;
+            }
             TreeForm::Binary(_, _, a, _) | TreeForm::Convert(a) | TreeForm::Unary(_, a) => a,
             _ => break,
         };
         spine.push(at)?;
         at = next;
     }
-    let mut slot = match spine.last().copied() {
-        Some(first) => first_operand(l, pool, at, first, d, depth - 1)?,
-        None => d,
+    let Some(first) = spine.last().copied() else {
+        return value(l, pool, at, d, depth - 1);
     };
+    let part = if spine.len() > 1 { l.temp(1) } else { d };
+    let mut slot = first_operand(l, pool, at, first, depth - 1)?;
     for _ in 0..u64::MAX {
         let Some(step) = spine.pop() else {
             break;
         };
-        link(l, pool, step, slot, d, depth - 1)?;
-        slot = d;
+        let to = if spine.is_empty() { d } else { part };
+        link(l, pool, step, slot, to, depth - 1)?;
+        slot = to;
     }
     Ok(())
 }
@@ -328,23 +295,15 @@ fn first_operand(
     pool: &Pool,
     at: TreeId,
     first: TreeId,
-    d: u32,
     depth: u32,
 ) -> Result<u32, Want> {
     if depth == 0 {
         return Err(Want);
     }
-    let is_late = match pool.trees.get(first).form {
-        TreeForm::Binary(_, _, _, b) => is_still(pool, b, 6),
-        _ => true,
-    };
-    if is_late {
-        if let TreeForm::Local(_) | TreeForm::Dollar(_) = pool.trees.get(at).form {
-            return operand(l, pool, at, depth - 1);
-        }
+    match pool.trees.get(first).form {
+        TreeForm::Binary(_, _, _, b) => kept(l, pool, at, b, depth - 1),
+        _ => operand(l, pool, at, depth - 1),
     }
-    value(l, pool, at, d, depth - 1)?;
-    Ok(d)
 }
 
 /// One operation of a chain, on what is in a slot.
@@ -372,30 +331,13 @@ fn link(
             l.at = tree.at;
             l.emit(Op::Unary(op, kind_of(pool, tree), d, slot))?;
         }
-        TreeForm::Convert(a) => {
+        _ => {
             l.at = tree.at;
-            cast(
-                l,
-                kind_of(pool, pool.trees.get(a)),
-                kind_of(pool, tree),
-                d,
-                slot,
-            )?;
+            l.emit(Op::Cast(kind_of(pool, tree), d, slot))?;
         }
-        _ => {}
     }
     l.top = top;
     Ok(())
-}
-
-/// A number of a kind as one of another.
-fn cast(l: &mut Lowering, from: Kind, to: Kind, d: u32, s: u32) -> Result<(), Want> {
-    if Range::of_kind(from).fits(Range::of_kind(to)) {
-        l.copy(d, s, 1)
-    } else {
-        l.emit(Op::Cast(to, d, s))?;
-        Ok(())
-    }
 }
 
 #[cycle(value)]
@@ -420,38 +362,19 @@ fn compare(
     Ok(())
 }
 
-/// `&&` and `||` that stand one in the left operand of the other.
+/// The truth of `&&` or `||`.
 #[cycle(value)]
 fn choices(l: &mut Lowering, pool: &Pool, id: TreeId, d: u32, depth: u32) -> Result<(), Want> {
     if depth == 0 {
         return Err(Want);
     }
-    let mut spine = Vec::new(l.alloc);
-    let mut at = id;
-    for _ in 0..u64::MAX {
-        let next = match pool.trees.get(at).form {
-            TreeForm::And(a, _) | TreeForm::Or(a, _) => a,
-            _ => break,
-        };
-        spine.push(at)?;
-        at = next;
-    }
-    value(l, pool, at, d, depth - 1)?;
-    for _ in 0..u64::MAX {
-        let Some(step) = spine.pop() else {
-            break;
-        };
-        let (jump, right) = match pool.trees.get(step).form {
-            TreeForm::And(_, b) => (Op::JumpZero(d, 0), b),
-            TreeForm::Or(_, b) => (Op::JumpOther(d, 0), b),
-            _ => break,
-        };
-        let over = l.emit(jump)?;
-        value(l, pool, right, d, depth - 1)?;
-        l.land(over)?;
-    }
-    l.emit(Op::Cast(Kind::Bool, d, d))?;
-    Ok(())
+    let waiting = l.waiting(Pending::Branch);
+    decide(l, pool, id, false, Pending::Branch, depth - 1)?;
+    l.emit(Op::Const(d, 1))?;
+    let end = l.emit(Op::Jump(0))?;
+    l.settle(Pending::Branch, waiting)?;
+    l.emit(Op::Const(d, 0))?;
+    l.land(end)
 }
 
 #[cycle(value)]
@@ -467,24 +390,13 @@ fn conditional(
     if depth == 0 {
         return Err(Want);
     }
-    let s = operand(l, pool, c, depth - 1)?;
-    let other = l.emit(Op::JumpZero(s, 0))?;
+    let waiting = l.waiting(Pending::Branch);
+    decide(l, pool, c, false, Pending::Branch, depth - 1)?;
     value(l, pool, a, d, depth - 1)?;
     let end = l.emit(Op::Jump(0))?;
-    l.land(other)?;
+    l.settle(Pending::Branch, waiting)?;
     value(l, pool, b, d, depth - 1)?;
     l.land(end)
-}
-
-/// The slot of the local variable that a place is.
-fn own_slot(l: &Lowering, pool: &Pool, id: TreeId) -> Option<u32> {
-    match pool.trees.get(id).form {
-        TreeForm::Local(v) => match l.home(v) {
-            Home::Slot(s) => Some(s),
-            _ => None,
-        },
-        _ => None,
-    }
 }
 
 /// An assignment. Gives the slots of the value.
@@ -504,9 +416,16 @@ fn assign(l: &mut Lowering, pool: &Pool, a: TreeId, b: TreeId, depth: u32) -> Re
         l.copy(s, t, n)?;
         return Ok(t);
     }
+    // a value that can't stop the run may come before the place, whose address is then used at once
+    if is_calm(pool, b) && is_still(pool, a) {
+        let t = operand(l, pool, b, depth - 1)?;
+        let spot = place(l, pool, a, depth - 1)?;
+        l.at = pool.trees.get(a).at;
+        store(l, spot, t, n)?;
+        return Ok(t);
+    }
     let spot = place(l, pool, a, depth - 1)?;
-    let t = l.temp(n);
-    value(l, pool, b, t, depth - 1)?;
+    let t = operand(l, pool, b, depth - 1)?;
     l.at = pool.trees.get(a).at;
     store(l, spot, t, n)?;
     Ok(t)
@@ -529,46 +448,58 @@ fn update(
         return Err(Want);
     }
     let to = kind_of(pool, tree);
-    let own = own_slot(l, pool, a);
-    if let (None, Some(s)) = (gives, own) {
-        if to == kind && is_still(pool, b, 6) {
+    if let Some(s) = own_slot(l, pool, a) {
+        if is_still(pool, b) {
             let right = operand(l, pool, b, depth - 1)?;
             l.at = tree.at;
-            l.emit(Op::Binary(op, kind, s, s, right))?;
-            return Ok(());
+            if let Some((d, true)) = gives {
+                l.copy(d, s, 1)?;
+            }
+            operate(l, op, kind, to, s, s, right)?;
+            return match gives {
+                Some((d, false)) => l.copy(d, s, 1),
+                _ => Ok(()),
+            };
         }
     }
     let spot = place(l, pool, a, depth - 1)?;
-    let old = l.temp(1);
+    let old = l.temp(2);
     load(l, spot, old, 1)?;
     let right = operand(l, pool, b, depth - 1)?;
-    updated(l, tree, spot, op, kind, to, old, right, gives)
-}
-
-/// The end of `a op= b`: the operation and the write.
-fn updated(
-    l: &mut Lowering,
-    tree: Tree,
-    spot: Spot,
-    op: BinOp,
-    kind: Kind,
-    to: Kind,
-    old: u32,
-    right: u32,
-    gives: Option<(u32, bool)>,
-) -> Result<(), Want> {
     l.at = tree.at;
-    let t = l.temp(2);
-    let next = t.saturating_add(1);
-    cast(l, to, kind, t, old)?;
-    l.emit(Op::Binary(op, kind, next, t, right))?;
-    cast(l, kind, to, next, next)?;
+    let next = old.saturating_add(1);
+    operate(l, op, kind, to, next, old, right)?;
     store(l, spot, next, 1)?;
     match gives {
         Some((d, true)) => l.copy(d, old, 1),
         Some((d, false)) => l.copy(d, next, 1),
         None => Ok(()),
     }
+}
+
+/// `a op b` in a kind, of a number of another kind and as one of that.
+fn operate(
+    l: &mut Lowering,
+    op: BinOp,
+    kind: Kind,
+    to: Kind,
+    d: u32,
+    a: u32,
+    b: u32,
+) -> Result<(), Want> {
+    let mut left = a;
+    if !keeps_word(to, kind) {
+        left = l.temp(1);
+        l.emit(Op::Cast(kind, left, a))?;
+    }
+    if keeps_word(kind, to) {
+        l.emit(Op::Binary(op, kind, d, left, b))?;
+    } else {
+        let t = l.temp(1);
+        l.emit(Op::Binary(op, kind, t, left, b))?;
+        l.emit(Op::Cast(to, d, t))?;
+    }
+    Ok(())
 }
 
 /// The words that a call hands a function for an argument.

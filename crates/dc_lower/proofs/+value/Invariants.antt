@@ -92,3 +92,9 @@ decreases-arrays::update_length l = l.depth
 
 abbrev pub decreases-arrays::same : goal.decreases-arrays::same
 decreases-arrays::same l = l.depth
+
+abbrev pub decreases-conditions::decide : goal.decreases-conditions::decide
+decreases-conditions::decide l = l.depth
+
+abbrev pub decreases-conditions::decide_all : goal.decreases-conditions::decide_all
+decreases-conditions::decide_all l = l.depth
