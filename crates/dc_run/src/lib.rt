@@ -15,6 +15,7 @@ mod number;
 mod print;
 mod program;
 mod slow;
+mod steps;
 
 pub use machine::{Exit, Machine};
 pub use number::{compare_words, unary_words, wrap_word};
