@@ -1,5 +1,5 @@
 -- A text that is a program of the core, or is refused by another rule than 23, is none with forms that the core hasn't.
-use Rattle.std.proofs.Common.{◌≡◌, ap, sym, ◌∙◌, ℕ, List, Ok, Err, refl, subst, ◌↔◌, Bool, true, false, not, nat_eq, IsTrue, eq-eqb, arith}
+use Rattle.std.proofs.Common.{◌≡◌, ap, sym, ◌∙◌, ℕ, List, Ok, Err, refl, subst, ◌↔◌, Bool, true, false, not, nat_eq, IsTrue, arith}
 use Rattle.dc_types.specs.declared.refusal.Refusal.{Refusal}
 use Rattle.dc_types.specs.declared.refusal.Fail.{Fail}
 use Rattle.dc_types.specs.declared.refusal.Fail.TheVariants as fail
