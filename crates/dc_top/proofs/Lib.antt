@@ -6,3 +6,4 @@ pub mod Texts
 pub mod Judging
 pub mod Spellings
 pub mod Verdicts
+pub mod Ways

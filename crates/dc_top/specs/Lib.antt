@@ -9,3 +9,4 @@ pub mod Laws
 pub mod Texts
 pub mod Front
 pub mod Spellings
+pub mod Ways
