@@ -1,6 +1,12 @@
 // The two ways of a job.
-ghost use Rattle.std.specs.Prelude.{◌≡◌, ◌⊎◌, IfOk};
+ghost use Rattle.std.specs.Prelude.{◌≡◌, ◌⊎◌, ℕ, List, Option, Some, IfOk, IsSome};
+ghost use Rattle.std.specs.FinMap.{get};
 ghost use Rattle.dc_edge.specs.Causes.{CountsFaults, Rose};
+ghost use Rattle.dc_edge.specs.Library.{FileMap, MayHold, file_map};
+ghost use Rattle.dc_top.specs.Answers.{Follows, IsRefused, IsRun, Refuses};
+ghost use Rattle.dc_top.specs.Words.{job_of, texts_of};
+ghost use Rattle.dc_top.specs.Ways.{IsFileOf};
+ghost use Rattle.dc_top.specs.declared.program.Run.{Run};
 ghost use Rattle.dc_build.specs.Ends.{IsOrFails};
 
 use dc_build::whole;
@@ -26,7 +32,10 @@ fn report_unread<R: Sink>(alloc: Global, path: &[u8], report: &mut R) -> Status
 }
 
 /// A file alone.
-fn one_file(alloc: Global, path: &[u8], bytes: Text) -> Result<Files, NoMemory> {
+#[tactic(auto, using(dc_edge::proofs::Files::get_file_map))]
+fn one_file(alloc: Global, path: &[u8], bytes: Text) -> Result<Files, NoMemory>
+    ensures { IfOk result (λ files. get (file_map files) path.now ≡ Some bytes) }
+{
     let mut files = Files::new(alloc);
     files.push(File {
         path: Text::copy_of(alloc, path)?,
@@ -48,6 +57,9 @@ fn compile_one<S: Sink, R: Sink>(
     ensures write_fault { result ≡ Status.WriteFault → Rose (S.faults out.old) (S.faults out.new) ⊎ Rose (R.faults report.old) (R.faults report.new) }
     ensures out_counted { (S.faults out.new ≡ S.faults out.old → ⊥) → result ≡ Status.WriteFault }
     ensures report_counted { (R.faults report.new ≡ R.faults report.old → ⊥) → result ≡ Status.WriteFault }
+    // Where some files are told, and this is the job's file with its text: its program is followed, and a refusal by another rule than 23 is told.
+    ensures runs { (told : Option FileMap) → IsSome told → IsFileOf (job_of (texts_of words.now.items)) path.now → MayHold told path.now text → (run : Run) → IsRun (job_of (texts_of words.now.items)) told run → Follows run result (S.taken out.old) (S.taken out.new) (R.taken report.old) (R.taken report.new) }
+    ensures refuses { (told : Option FileMap) → IsSome told → IsFileOf (job_of (texts_of words.now.items)) path.now → MayHold told path.now text → (line : List ℕ) → (is : IsRefused (job_of (texts_of words.now.items)) told line) → (is.refusal.rule ≡ 23 → ⊥) → Refuses line result (S.taken out.old) (S.taken out.new) (R.taken report.old) (R.taken report.new) }
 {
     let Ok(is_core) = is_core(alloc, path, &text) else {
         return Status::NoMemory;
@@ -79,6 +91,11 @@ pub(crate) fn compile<L: Library, S: Sink, R: Sink>(
     ensures report_counted { (R.faults report.new ≡ R.faults report.old → ⊥) → result ≡ Status.WriteFault }
     // Where a read failed in this call, the status is that of a read fault, unless a put failed or memory was wanted.
     ensures lib_counted { (L.faults lib.new ≡ L.faults lib.old → ⊥) → IsOrFails Status.ReadFault result }
+    // Where the files are told and no read failed: a file of the job that is a program of the core is run, and the status, the
+    // output and the line are those of its meaning, unless a put failed or memory was wanted. A file that is refused by another
+    // rule than 23, which is about forms that aren't built, is refused with its line.
+    ensures runs { IsSome (L.told lib.old) → (Rose (L.faults lib.old) (L.faults lib.new) → ⊥) → (run : Run) → IsRun (job_of (texts_of words.now.items)) (L.told lib.old) run → Follows run result (S.taken out.old) (S.taken out.new) (R.taken report.old) (R.taken report.new) }
+    ensures refuses { IsSome (L.told lib.old) → (Rose (L.faults lib.old) (L.faults lib.new) → ⊥) → (line : List ℕ) → (is : IsRefused (job_of (texts_of words.now.items)) (L.told lib.old) line) → (is.refusal.rule ≡ 23 → ⊥) → Refuses line result (S.taken out.old) (S.taken out.new) (R.taken report.old) (R.taken report.new) }
 {
     let Some(path) = core_file(words) else {
         return whole(alloc, words.as_slice(), lib, out, report);
