@@ -104,7 +104,7 @@ fn rounds(
         let spot = w
             .pool
             .places
-            .entered(cond.at.spot, PlaceStep::Round(round))?;
+            .entered(cond.at.spot, PlaceStep::Round(round), cond.at.at)?;
         let outer = w.bind_of(cond.at.spot);
         w.add_bind(
             spot,

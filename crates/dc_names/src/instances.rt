@@ -105,7 +105,10 @@ pub fn instance_of(w: &mut World, decl: DeclId, args: &[Arg], at: Where) -> Resu
     }
     let key = w.pool.names.number(key.as_slice())?;
     let known = w.decl(decl)?;
-    let spot = w.pool.places.entered(known.at.spot, PlaceStep::With(key))?;
+    let spot = w
+        .pool
+        .places
+        .entered(known.at.spot, PlaceStep::With(key), known.at.at)?;
     let stands = Where {
         spot,
         at: known.at.at,

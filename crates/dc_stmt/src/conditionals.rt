@@ -175,7 +175,10 @@ fn round_env(
     }
     let block = w.locals.open(env.block, true)?;
     w.locals.put(block, name, symbol, at)?;
-    let spot = w.pool.places.entered(env.spot, PlaceStep::Round(round))?;
+    let spot = w
+        .pool
+        .places
+        .entered(env.spot, PlaceStep::Round(round), name_at)?;
     w.inherit_binds(env.spot, spot)?;
     Ok(Env {
         block: Some(block),

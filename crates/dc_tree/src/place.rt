@@ -52,6 +52,9 @@ pub struct Spot {
     pub text: PlaceId,
     /// The innermost round or instance that is open in this text, with those around it.
     pub inside: Option<PlaceId>,
+    /// Where in this text that stands of which this is a round or an instance. Rounds of the same
+    /// number of two `static foreach` are two spots, since other names are known in them.
+    pub of: u32,
     /// How many mixins the text stands in.
     pub depth: u32,
 }
@@ -124,6 +127,7 @@ impl Places {
             None => Spot {
                 text: PlaceId(0),
                 inside: None,
+                of: 0,
                 depth: 0,
             },
         }
@@ -139,6 +143,7 @@ impl Places {
         self.spotted(Spot {
             text: module,
             inside: None,
+            of: 0,
             depth: 0,
         })
     }
@@ -150,12 +155,13 @@ impl Places {
         self.spotted(Spot {
             text,
             inside: None,
+            of: 0,
             depth,
         })
     }
 
-    /// The spot inside a round or an instance.
-    pub fn entered(&mut self, spot: SpotId, step: PlaceStep) -> Result<SpotId, Want> {
+    /// The spot inside a round or an instance of what stands at an offset.
+    pub fn entered(&mut self, spot: SpotId, step: PlaceStep, of: u32) -> Result<SpotId, Want> {
         let outer = self.spot(spot);
         let before = match outer.inside {
             Some(inside) => inside,
@@ -164,6 +170,7 @@ impl Places {
         let inside = self.linked(Link { before, step })?;
         self.spotted(Spot {
             inside: Some(inside),
+            of,
             ..outer
         })
     }
