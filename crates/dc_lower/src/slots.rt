@@ -98,8 +98,10 @@ fn never_traps(op: BinOp) -> bool {
 pub(crate) fn is_flat(pool: &Pool, id: TreeId) -> bool {
     let mut at = id;
     for _ in 0..LOOKED {
-        match pool.trees.get(at).form {
+        let tree = pool.trees.get(at);
+        match tree.form {
             TreeForm::As(a) => at = a,
+            TreeForm::Convert(a) if keeps_words(pool, tree, a) => at = a,
             TreeForm::Binary(_, _, _, _)
             | TreeForm::Compare(_, _, _, _)
             | TreeForm::Convert(_)
