@@ -1,54 +1,64 @@
-/* Loaded before the C library (LD_PRELOAD): of the calls that take memory, counted from the start of the program, that with
- * the number DPC_REFUSE gets none, and where DPC_REFUSE_ALL is set all behind it get none either. At the end their number
- * goes to the file DPC_COUNTED. */
+// Refuses memory: loaded before the C library (LD_PRELOAD), it counts the calls for memory that a program makes from its
+// start on and refuses those with the numbers REFUSE_FROM to REFUSE_TO. At the end it writes their count to the file
+// REFUSE_COUNT.
 #include <errno.h>
+#include <fcntl.h>
+#include <stddef.h>
 #include <stdio.h>
 #include <stdlib.h>
+#include <unistd.h>
 
+// What malloc, calloc, realloc and memalign are in the GNU C library.
 void *__libc_malloc(size_t);
 void *__libc_calloc(size_t, size_t);
 void *__libc_realloc(void *, size_t);
 void *__libc_memalign(size_t, size_t);
 
-static long count, refused, all, counting;
+static int counts;
+static long calls, from, to;
 
-__attribute__((constructor)) static void begin(void)
+static int refused(void)
 {
-    const char *wanted = getenv("DPC_REFUSE");
-    refused = wanted ? atol(wanted) : 0;
-    all = getenv("DPC_REFUSE_ALL") != 0;
-    counting = 1;
-}
-
-__attribute__((destructor)) static void end(void)
-{
-    const char *name = getenv("DPC_COUNTED");
-    counting = 0;
-    FILE *file = name ? fopen(name, "w") : 0;
-    if (file) {
-        fprintf(file, "%ld", count);
-        fclose(file);
-    }
-}
-
-static int refuse(void)
-{
-    if (!counting) return 0;
-    count++;
-    if (refused == 0 || count < refused || (count > refused && !all)) return 0;
+    if (!counts || ++calls < from || calls > to)
+        return 0;
     errno = ENOMEM;
     return 1;
 }
 
-void *malloc(size_t n) { return refuse() ? 0 : __libc_malloc(n); }
-void *calloc(size_t n, size_t each) { return refuse() ? 0 : __libc_calloc(n, each); }
-void *realloc(void *old, size_t n) { return refuse() ? 0 : __libc_realloc(old, n); }
-void *aligned_alloc(size_t align, size_t n) { return refuse() ? 0 : __libc_memalign(align, n); }
+void *malloc(size_t size) { return refused() ? NULL : __libc_malloc(size); }
+void *calloc(size_t count, size_t size) { return refused() ? NULL : __libc_calloc(count, size); }
+void *realloc(void *old, size_t size) { return refused() ? NULL : __libc_realloc(old, size); }
+void *memalign(size_t align, size_t size) { return refused() ? NULL : __libc_memalign(align, size); }
+void *aligned_alloc(size_t align, size_t size) { return memalign(align, size); }
 
-int posix_memalign(void **to, size_t align, size_t n)
+int posix_memalign(void **made, size_t align, size_t size)
 {
-    void *found = refuse() ? 0 : __libc_memalign(align, n);
-    if (!found) return ENOMEM;
-    *to = found;
-    return 0;
+    void *given = memalign(align, size);
+    if (given)
+        *made = given;
+    return given ? 0 : ENOMEM;
+}
+
+static long number(const char *name)
+{
+    const char *text = getenv(name);
+    return text ? atol(text) : 0;
+}
+
+__attribute__((constructor)) static void begin(void)
+{
+    from = number("REFUSE_FROM");
+    to = number("REFUSE_TO");
+    counts = 1;
+}
+
+__attribute__((destructor)) static void end(void)
+{
+    counts = 0;
+    const char *path = getenv("REFUSE_COUNT");
+    int file = path ? open(path, O_WRONLY | O_CREAT | O_TRUNC, 0600) : -1;
+    if (file >= 0) {
+        dprintf(file, "%ld", calls);
+        close(file);
+    }
 }
