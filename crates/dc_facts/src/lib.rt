@@ -1,5 +1,5 @@
-//! What judging asks of declarations: signatures, layouts, symbols and start values; the texts of keys; and what is in
-//! a tree.
+//! What judging asks of declarations: signatures, layouts, symbols and start values; the texts of
+//! keys; and what is in a tree.
 #![tactic(auto)]
 
 mod facts;

@@ -13,7 +13,8 @@ fn other(to: Pending) -> Pending {
     }
 }
 
-/// Jumps where a condition comes to a truth, and goes on behind where it doesn't. Where the jumps lead is settled later.
+/// Jumps where a condition comes to a truth, and goes on behind where it doesn't. Where the jumps
+/// lead is settled later.
 #[cycle(value)]
 pub(crate) fn decide(
     l: &mut Lowering,
@@ -51,8 +52,8 @@ pub(crate) fn decide(
     }
 }
 
-/// `&&` and `||` that stand one in the left operand of the other. What decides one leads to the next that it doesn't
-/// decide.
+/// `&&` and `||` that stand one in the left operand of the other. What decides one leads to the
+/// next that it doesn't decide.
 #[cycle(value)]
 fn decide_all(
     l: &mut Lowering,

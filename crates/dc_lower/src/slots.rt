@@ -1,9 +1,11 @@
-// Which evaluations write nothing or can't trap, and which values stand in slots of the frame as they are.
+// Which evaluations write nothing or can't trap, and which values stand in slots of the frame as
+// they are.
 use crate::lowering::{Home, Lowering};
 use dc_tree::{Pool, Range, Tree, TreeForm, TreeId};
 use dc_types::{BinOp, Kind};
 
-/// How deep fields, conversions and operators are looked through. Deeper ones are evaluated into slots of their own.
+/// How deep fields, conversions and operators are looked through. Deeper ones are evaluated into
+/// slots of their own.
 pub(crate) const LOOKED: u32 = 8;
 
 /// How deep trees are looked at for what they may write or trap.
@@ -145,8 +147,8 @@ pub(crate) fn own_slot(l: &Lowering, pool: &Pool, id: TreeId) -> Option<u32> {
     None
 }
 
-/// The first slot of a value that stands in the frame: of a variable, a field, a length, or a conversion of one that
-/// changes no word.
+/// The first slot of a value that stands in the frame: of a variable, a field, a length, or a
+/// conversion of one that changes no word.
 pub(crate) fn known_slot(l: &Lowering, pool: &Pool, id: TreeId) -> Option<u32> {
     let mut at = id;
     for _ in 0..LOOKED {

@@ -251,7 +251,8 @@ fn parts(
     Ok(())
 }
 
-/// The operations on numbers that stand one in the left operand of the other. The last alone writes the slot.
+/// The operations on numbers that stand one in the left operand of the other. The last alone writes
+/// the slot.
 #[cycle(value)]
 fn chain(l: &mut Lowering, pool: &Pool, id: TreeId, d: u32, depth: u32) -> Result<(), Want> {
     if depth == 0 {

@@ -24,8 +24,8 @@ pub fn answered(w: &mut World, at: Where) -> Result<Option<(TypeId, ValueId)>, S
     })
 }
 
-/// The value of a resolved expression whose evaluation stands at a place: at once where it is known, else by a
-/// question of its own.
+/// The value of a resolved expression whose evaluation stands at a place: at once where it is
+/// known, else by a question of its own.
 pub fn evaluated(
     w: &mut World,
     env: Env,

@@ -33,7 +33,8 @@ fn first_function(w: &World, set: SetId) -> Result<Option<DeclId>, Stop> {
     Ok(w.members(known.members).get(1).map(|n| DeclId(*n)))
 }
 
-/// What a named instance stands for: of a template its member of the template's name, where it has one.
+/// What a named instance stands for: of a template its member of the template's name, where it has
+/// one.
 pub fn instance_symbol(
     w: &mut World,
     env: Env,
@@ -96,8 +97,8 @@ pub fn converted(
     Ok(Some(Arg::OfValue(to, value)))
 }
 
-/// The unit of the instance with these arguments, which isn't named by that alone. Rule 18 where its key text is too
-/// long.
+/// The unit of the instance with these arguments, which isn't named by that alone. Rule 18 where
+/// its key text is too long.
 pub fn instance_of(w: &mut World, decl: DeclId, args: &[Arg], at: Where) -> Result<UnitId, Stop> {
     let key = key_text(w, args)?;
     if key.len() > KEY_BYTES {
@@ -212,7 +213,8 @@ pub fn constraint_of(w: &World, unit: UnitId) -> Result<Option<NodeId>, Stop> {
     })
 }
 
-/// Asks that an instance belongs to the program: its rows are introduced, and its declarations are questions.
+/// Asks that an instance belongs to the program: its rows are introduced, and its declarations are
+/// questions.
 pub fn name_instance(w: &mut World, unit: UnitId, at: Where) -> Result<(), Stop> {
     if w.unit(unit)?.is_named {
         return Ok(());

@@ -1,5 +1,5 @@
-//! Names: what they stand for in scopes, units and types, the values that they name, the instances of templates, and
-//! the texts in which types and values are shown.
+//! Names: what they stand for in scopes, units and types, the values that they name, the instances
+//! of templates, and the texts in which types and values are shown.
 #![tactic(auto)]
 
 mod answers;

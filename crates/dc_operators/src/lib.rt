@@ -1,5 +1,5 @@
-//! What needs no judging of an expression of its own: operators over judged operands, updates, literals, and how well
-//! arguments fit.
+//! What needs no judging of an expression of its own: operators over judged operands, updates,
+//! literals, and how well arguments fit.
 #![tactic(auto)]
 
 mod basics;

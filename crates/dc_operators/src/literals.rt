@@ -7,8 +7,8 @@ use dc_model::{Stop, World};
 use dc_syntax::{Form, List, NodeId};
 use dc_tree::{Range, TreeForm, TreeId, Type, TypeId, Where};
 
-/// The type of parts that stand beside each other, or rule 10: the type that all have, without promotion, or else the
-/// common type of numbers.
+/// The type of parts that stand beside each other, or rule 10: the type that all have, without
+/// promotion, or else the common type of numbers.
 fn one_type(w: &mut World, parts: &[TreeId], at: Where) -> Result<TypeId, Stop> {
     let Some(first) = parts.first().copied() else {
         return w.refuse(10, at, None);

@@ -147,7 +147,8 @@ pub fn parameter_type(w: &World, parameters: List, k: u32) -> Option<NodeId> {
     }
 }
 
-/// The type that an `is` with `:` compares with a pattern: of a fixed array its slice, of an enum its base.
+/// The type that an `is` with `:` compares with a pattern: of a fixed array its slice, of an enum
+/// its base.
 pub fn softened(w: &mut World, pattern: NodeId, of: TypeId) -> Result<TypeId, Stop> {
     let Form::Brackets(_, brackets) = w.pool.syntax.node(pattern).form else {
         return Ok(of);

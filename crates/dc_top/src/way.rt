@@ -18,7 +18,8 @@ const UNBUILT: u8 = 23;
 
 /// The file of the job `run FILE` or `run --ticks N FILE`, the only ones that `dpc` does.
 pub fn core_file(words: &Vec<String>) -> Option<&[u8]>
-    ensures { MatchOption result (job_of (texts_of words.now.items) ≡ None) (λ file. IsFileOf (job_of (texts_of words.now.items)) file.now) }
+    ensures { MatchOption result (job_of (texts_of words.now.items) ≡ None)
+        (λ file. IsFileOf (job_of (texts_of words.now.items)) file.now) }
 {
     match job_of(words) {
         Some(job) => Some(job.file),
@@ -32,8 +33,10 @@ pub fn is_core(alloc: Global, file: &[u8], text: &Text) -> Result<bool, NoMemory
     // It is true exactly where the text isn't a module with a form that the core hasn't.
     ensures forms { IfOk result (λ core. IsTrue core ↔ (IsOutside file.now text.now → ⊥)) }
     // So it is true for each program of the core, and where another rule than 23 refuses the text.
-    ensures programs { IfOk result (λ core. (program : Program) → IsProgramOf file.now text.now program → IsTrue core) }
-    ensures refusals { IfOk result (λ core. (refusal : Refusal) → IsRefusedBy file.now text.now refusal → (refusal.rule ≡ 23 → ⊥) → IsTrue core) }
+    ensures programs { IfOk result (λ core. (program : Program) →
+        IsProgramOf file.now text.now program → IsTrue core) }
+    ensures refusals { IfOk result (λ core. (refusal : Refusal) →
+        IsRefusedBy file.now text.now refusal → (refusal.rule ≡ 23 → ⊥) → IsTrue core) }
 {
     let parsed = match parse_text(alloc, file, text) {
         Ok(parsed) => parsed,

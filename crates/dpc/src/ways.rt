@@ -57,9 +57,19 @@ fn compile_one<S: Sink, R: Sink>(
     ensures write_fault { result ≡ Status.WriteFault → Rose (S.faults out.old) (S.faults out.new) ⊎ Rose (R.faults report.old) (R.faults report.new) }
     ensures out_counted { (S.faults out.new ≡ S.faults out.old → ⊥) → result ≡ Status.WriteFault }
     ensures report_counted { (R.faults report.new ≡ R.faults report.old → ⊥) → result ≡ Status.WriteFault }
-    // Where some files are told, and this is the job's file with its text: its program is followed, and a refusal by another rule than 23 is told.
-    ensures runs { (told : Option FileMap) → IsSome told → IsFileOf (job_of (texts_of words.now.items)) path.now → MayHold told path.now text → (run : Run) → IsRun (job_of (texts_of words.now.items)) told run → Follows run result (S.taken out.old) (S.taken out.new) (R.taken report.old) (R.taken report.new) }
-    ensures refuses { (told : Option FileMap) → IsSome told → IsFileOf (job_of (texts_of words.now.items)) path.now → MayHold told path.now text → (line : List ℕ) → (is : IsRefused (job_of (texts_of words.now.items)) told line) → (is.refusal.rule ≡ 23 → ⊥) → Refuses line result (S.taken out.old) (S.taken out.new) (R.taken report.old) (R.taken report.new) }
+    // Where some files are told, and this is the job's file with its text: its program is followed,
+    // and a refusal by another rule than 23 is told.
+    ensures runs { (told : Option FileMap) → IsSome told
+        → IsFileOf (job_of (texts_of words.now.items)) path.now → MayHold told path.now text
+        → (run : Run) → IsRun (job_of (texts_of words.now.items)) told run
+        → Follows run result
+        (S.taken out.old) (S.taken out.new) (R.taken report.old) (R.taken report.new) }
+    ensures refuses { (told : Option FileMap) → IsSome told
+        → IsFileOf (job_of (texts_of words.now.items)) path.now → MayHold told path.now text
+        → (line : List ℕ) → (is : IsRefused (job_of (texts_of words.now.items)) told line)
+        → (is.refusal.rule ≡ 23 → ⊥)
+        → Refuses line result
+        (S.taken out.old) (S.taken out.new) (R.taken report.old) (R.taken report.new) }
 {
     let Ok(is_core) = is_core(alloc, path, &text) else {
         return Status::NoMemory;
@@ -91,11 +101,19 @@ pub(crate) fn compile<L: Library, S: Sink, R: Sink>(
     ensures report_counted { (R.faults report.new ≡ R.faults report.old → ⊥) → result ≡ Status.WriteFault }
     // Where a read failed in this call, the status is that of a read fault, unless a put failed or memory was wanted.
     ensures lib_counted { (L.faults lib.new ≡ L.faults lib.old → ⊥) → IsOrFails Status.ReadFault result }
-    // Where the files are told and no read failed: a file of the job that is a program of the core is run, and the status, the
-    // output and the line are those of its meaning, unless a put failed or memory was wanted. A file that is refused by another
-    // rule than 23, which is about forms that aren't built, is refused with its line.
-    ensures runs { IsSome (L.told lib.old) → (Rose (L.faults lib.old) (L.faults lib.new) → ⊥) → (run : Run) → IsRun (job_of (texts_of words.now.items)) (L.told lib.old) run → Follows run result (S.taken out.old) (S.taken out.new) (R.taken report.old) (R.taken report.new) }
-    ensures refuses { IsSome (L.told lib.old) → (Rose (L.faults lib.old) (L.faults lib.new) → ⊥) → (line : List ℕ) → (is : IsRefused (job_of (texts_of words.now.items)) (L.told lib.old) line) → (is.refusal.rule ≡ 23 → ⊥) → Refuses line result (S.taken out.old) (S.taken out.new) (R.taken report.old) (R.taken report.new) }
+    // Where the files are told and no read failed: a file of the job that is a program of the core
+    // is run, and the status, the output and the line are those of its meaning, unless a put failed
+    // or memory was wanted. A file that is refused by another rule than 23, which is about forms
+    // that aren't built, is refused with its line.
+    ensures runs { IsSome (L.told lib.old) → (Rose (L.faults lib.old) (L.faults lib.new) → ⊥)
+        → (run : Run) → IsRun (job_of (texts_of words.now.items)) (L.told lib.old) run
+        → Follows run result
+        (S.taken out.old) (S.taken out.new) (R.taken report.old) (R.taken report.new) }
+    ensures refuses { IsSome (L.told lib.old) → (Rose (L.faults lib.old) (L.faults lib.new) → ⊥)
+        → (line : List ℕ) → (is : IsRefused (job_of (texts_of words.now.items)) (L.told lib.old) line)
+        → (is.refusal.rule ≡ 23 → ⊥)
+        → Refuses line result
+        (S.taken out.old) (S.taken out.new) (R.taken report.old) (R.taken report.new) }
 {
     let Some(path) = core_file(words) else {
         return whole(alloc, words.as_slice(), lib, out, report);
